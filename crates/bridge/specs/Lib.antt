@@ -1,0 +1,4 @@
+pub mod Inside
+pub mod Faults
+pub mod Frames
+pub mod Bridge

@@ -1,0 +1,4 @@
+mod Lowest
+pub mod Masks
+pub mod Rows
+pub mod Steps
