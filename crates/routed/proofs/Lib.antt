@@ -1,0 +1,3 @@
+mod Made
+mod Exact
+mod Law
