@@ -7,7 +7,8 @@ use mathlib.Core.Path.{_≡_}
 use mathlib.Core.Bool.{Bool, true, false, cond}
 use mathlib.Core.List.{List, map}
 use Prim.Native.Nat.{ℕ, _+_, _≤_}
-use lib.ListN.{length, getD}
+use lib.Dec.{ltb}
+use lib.ListN.{getD}
 use Rattle.std.specs.declared.option.Option.{Option}
 use Rattle.std.specs.declared.option.Option.the-variants.{Some, None}
 use Rattle.kinds.specs.Meaning.{Meaning}
@@ -32,6 +33,10 @@ module _ {Header Rule Row : Type 0} (k : Meaning Header Rule Row) where
   abbrev pub Lowest : List (Option Rule) → Header → Option ℕ → Type 0
   Lowest rules h None = (line : ℕ) → Matches rules h line → ⊥
   Lowest rules h (Some lowest) = Matches rules h lowest × ((line : ℕ) → Matches rules h line → lowest ≤ line)
+
+-- the line behind those that a search has passed, if any is left
+abbrev pub lineAfter : ℕ → ℕ → Option ℕ
+lineAfter passed count = cond (ltb passed count) (Some passed) None
 
 -- how many lines a search from the first one on has compared when it ends with this answer
 abbrev pub comparedFor : Option ℕ → ℕ → ℕ

@@ -1,8 +1,9 @@
 // Lines by their rules, and the plain search through all of them.
 ghost use mathlib.Core.Path.{_≡_};
+ghost use Prim.Native.Nat.{_≤_};
 ghost use lib.ListN.{length};
 ghost use Rattle.std.specs.declared.option.Option.the-variants.{Some};
-ghost use Rattle.kinds.specs.Lines.{ruleOf, rulesOf, matchesAt, Lowest, comparedFor};
+ghost use Rattle.kinds.specs.Lines.{ruleOf, rulesOf, matchesAt, Lowest, lineAfter, comparedFor};
 use super::kind::Kind;
 use super::line::Line;
 
@@ -33,15 +34,28 @@ fn line_matches<K: Kind>(line: &Line<K::Row>, header: &K::Header) -> bool
     }
 }
 
+// How many lines stand before the lowest filled line whose rule matches, or all of them where there is none.
+fn passed<K: Kind>(lines: &[Line<K::Row>], header: &K::Header) -> usize
+    ensures answer { λ r. ⌜ Lowest meaning (rulesOf meaning (now (lines .entry))) (now (header .entry)) (lineAfter r (length (now (lines .entry)))) ⌝ }
+    ensures bound { λ r. ⌜ r ≤ length (now (lines .entry)) ⌝ }
+{
+    for (i, line) in lines.iter().enumerate() {
+        if line_matches::<K>(line, header) {
+            return i;
+        }
+    }
+    lines.len()
+}
+
 // The lowest filled line whose rule matches, or none, and how many lines were compared.
 pub fn first_match<K: Kind>(lines: &[Line<K::Row>], header: &K::Header) -> (Option<usize>, usize)
     ensures answer { λ r. ⌜ Lowest meaning (rulesOf meaning (now (lines .entry))) (now (header .entry)) (r .0) ⌝ }
     ensures compared { λ r. ⌜ r .1 ≡ comparedFor (r .0) (length (now (lines .entry))) ⌝ }
 {
-    for (i, line) in lines.iter().enumerate() {
-        if line_matches::<K>(line, header) {
-            return (Some(i), i + 1);
-        }
+    let before = passed::<K>(lines, header);
+    if before < lines.len() {
+        (Some(before), before + 1)
+    } else {
+        (None, before)
     }
-    (None, lines.len())
 }

@@ -27,7 +27,7 @@ impl Prefix {
     }
 
     // Whether a value is admitted at bit b: the own one below the length, both from there on.
-    pub fn admits(&self, b: usize, value: bool) -> bool
+    pub(crate) fn admits(&self, b: usize, value: bool) -> bool
         ensures { λ r. ⌜ r ≡ prefixAdmits (now (self .entry)) b value ⌝ }
     {
         b >= self.length as usize || value == ((self.address >> (31 - b)) % 2 == 1)
