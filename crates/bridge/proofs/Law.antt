@@ -1,10 +1,9 @@
 -- The bridge kind's law.
 use native.Mathlib.Omega.{arith}
-use Rattle.std.specs.Results.{okPart}
 use Rattle.kinds.specs.Meaning.{Lawful}
 use Rattle.kinds.proofs.Masks.{mask-agrees}
 use Rattle.kinds.proofs.Rows.{fields-lawful}
-use Rattle.bridge.specs.Bridge.{bridge, fields, masked, ruleIn}
+use Rattle.bridge.specs.Bridge.{bridge, fields, masked}
 use Rattle.kinds.specs.Fields.{LawfulField}
 use Rattle.bridge.specs.declared.octets.Octets.{Octets}
 use Prim.Native.Nat.{ℕ}

@@ -8,7 +8,6 @@ use Rattle.kinds.specs.Bytes.{bigEndian}
 use Rattle.kinds.specs.Checks.{checked}
 use Rattle.bridge.specs.declared.fault.Fault.{Fault}
 use Rattle.bridge.specs.declared.fault.Fault.the-variants.{Short}
-use Rattle.bridge.specs.declared.octets.Octets.{Octets}
 use Rattle.bridge.specs.declared.frame.Header.{Header}
 
 -- the header of a frame, or why it has none

@@ -1,6 +1,5 @@
 // Making a rule from a row.
 ghost use mathlib.Core.Path.{_≡_};
-ghost use mathlib.Core.Bool.{Bool};
 ghost use Rattle.bridge.specs.Inside.{inside};
 ghost use Rattle.bridge.specs.Bridge.{ruleIn};
 use super::fault::Fault;

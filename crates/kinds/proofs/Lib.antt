@@ -1,4 +1,3 @@
 mod Lowest
 pub mod Masks
 pub mod Rows
-pub mod Steps

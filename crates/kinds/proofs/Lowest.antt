@@ -12,7 +12,7 @@ use Rattle.std.specs.declared.option.Option.the-variants.{Some, None}
 use Rattle.kinds.specs.Meaning.{Meaning}
 use Rattle.kinds.specs.Lines.{ruleOf, rulesOf, matchesAt, Matches, Lowest, lineAfter}
 use Rattle.kinds.specs.declared.line.Line.{Line}
-use mathlib.Core.Logic.{_⊎_, inl, inr}
+use mathlib.Core.Logic.{inl, inr}
 
 module _ {Header Rule Row : Type 0} (k : Meaning Header Rule Row) (lines : List (Line Row)) (h : Header) where
   pub matches-here : (i : ℕ) (line : Line Row) (t : Bool) → i < length lines → line ≡ getD lines i line → t ≡ matchesAt k (ruleOf k line) h → matchesAt k (getD (rulesOf k lines) i None) h ≡ t

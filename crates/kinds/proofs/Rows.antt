@@ -1,14 +1,14 @@
 -- A row of lawful fields is a lawful kind.
 use mathlib.Core.Path.{_≡_, refl, _∙_}
-use mathlib.Core.Bool.{Bool, true, false, cond, not, _&&_}
+use mathlib.Core.Bool.{Bool, true, false, cond, not}
 use mathlib.Core.List.{List, [], _∷_}
-use Prim.Native.Nat.{ℕ, _+_, _-_, _≤_, _<_}
+use Prim.Native.Nat.{ℕ, _-_, _≤_}
 use native.Mathlib.Omega.{arith}
 use lib.Dec.{ltb}
 use Rattle.std.specs.declared.option.Option.{Option}
 use Rattle.std.specs.shelf.Lists.{All}
 use Rattle.std.proofs.shelf.Tests.{and-parts, cond-false, ltb-true, le-ltb}
-use Rattle.kinds.specs.Meaning.{Meaning, Lawful}
+use Rattle.kinds.specs.Meaning.{Lawful}
 use Rattle.kinds.specs.Bits.{bitOf}
 use Rattle.kinds.specs.Fields.{Field, LawfulField, widthOf, bitIn, matchesIn, admitsIn, kindOf}
 

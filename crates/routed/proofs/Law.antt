@@ -8,12 +8,10 @@ use Rattle.std.proofs.shelf.Bits.{shr-shr}
 use Rattle.std.proofs.shelf.Tests.{eqb-true, ltb-true}
 use Rattle.kinds.specs.Meaning.{Lawful}
 use Rattle.kinds.specs.Bits.{bitOf}
-use Rattle.kinds.specs.Fields.{LawfulField, field}
 use Rattle.kinds.proofs.Masks.{mask-agrees}
 use Rattle.kinds.proofs.Rows.{fields-lawful}
 use Rattle.routed.specs.Prefixes.{inPrefix, prefixAdmits}
 use Rattle.routed.specs.Ranges.{inRange, rangeAdmits}
-use Rattle.routed.specs.Protocols.{isProtocol, protocolAdmits}
 use Rattle.routed.specs.Routed.{routed, fields}
 use Rattle.routed.specs.declared.rule.Prefix.{Prefix}
 use Rattle.routed.specs.declared.rule.PortRange.{PortRange}

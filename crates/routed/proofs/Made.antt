@@ -1,8 +1,8 @@
 -- Numbers that pass their checks make the part that they name, whichever proofs show it.
 use mathlib.Core.Path.{_≡_, ap, _∙_}
-use mathlib.Core.Bool.{Bool, true, Bool-set, Bool-discrete}
+use mathlib.Core.Bool.{true, Bool-set, Bool-discrete}
 use mathlib.Core.HLevel.{hedberg}
-use Prim.Native.Nat.{ℕ, _-_, _%_, _^_, _≤_}
+use Prim.Native.Nat.{_-_, _%_, _^_, _≤_}
 use native.Mathlib.Bridge.{le-prop}
 use native.Mathlib.Decide.{decLe, ℕ-discrete}
 use lib.Bits.{bitAnd}

@@ -24,12 +24,12 @@ module _ (packet : List ℕ) where
   abbrev pub headerLength : ℕ
   headerLength = 4 * (getD packet 0 0 % 16)
 
-  abbrev pub protocolOf : ℕ
-  protocolOf = getD packet 9 0
+  abbrev pub protocolIn : ℕ
+  protocolIn = getD packet 9 0
 
   -- a port, at its distance from the header's end; 0 where the protocol has none
   abbrev pub portAt : ℕ → ℕ
-  portAt distance = cond (hasPorts protocolOf) (bigEndian packet (headerLength + distance) 2) 0
+  portAt distance = cond (hasPorts protocolIn) (bigEndian packet (headerLength + distance) 2) 0
 
   -- the header of a packet, or why it has none
   abbrev pub headerOf : Result Header Fault
@@ -38,6 +38,6 @@ module _ (packet : List ℕ) where
       ((ltb (length packet) 20, Short)
       ∷ (not (eqb version 4), Version)
       ∷ (ltb headerLength 20 || ltb (length packet) headerLength, HeaderLength)
-      ∷ (hasPorts protocolOf && ltb (length packet) (headerLength + 4), NoPorts)
+      ∷ (hasPorts protocolIn && ltb (length packet) (headerLength + 4), NoPorts)
       ∷ [])
-      (record { source = bigEndian packet 12 4; destination = bigEndian packet 16 4; «source_port» = portAt 0; «destination_port» = portAt 2; protocol = protocolOf })
+      (record { source = bigEndian packet 12 4; destination = bigEndian packet 16 4; «source_port» = portAt 0; «destination_port» = portAt 2; protocol = protocolIn })

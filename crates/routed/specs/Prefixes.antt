@@ -1,4 +1,8 @@
--- An address prefix. Assumes nothing.
+-- An address prefix.
+--     inPrefix       an address begins with it
+--     prefixAdmits   the values that it admits at a bit
+--     prefixOf       the prefix that two numbers make, or what is wrong with them
+-- Assumes nothing.
 use mathlib.Core.Path.{_≡_}
 use mathlib.Core.Bool.{Bool, true, cond, Bool·beq}
 use Prim.Native.Nat.{ℕ, _-_, _/_, _%_, _^_, _≤_}
@@ -19,6 +23,7 @@ inPrefix p address = eqb (address / 2 ^ (32 - p .length)) (p .address / 2 ^ (32 
 abbrev pub prefixAdmits : Prefix → ℕ → Bool → Bool
 prefixAdmits p b v = cond (ltb b (p .length)) (Bool·beq v (bitOf 32 (p .address) b)) true
 
+-- the prefix, or the first check that fails: the length, then a one past it
 abbrev pub prefixIf : (address length : ℕ) → Dec (length ≤ 32) → Dec (address % 2 ^ (32 - length) ≡ 0) → Result Prefix Defect
 prefixIf address length (no _) clean = Err PrefixLength
 prefixIf address length (yes short) (no _) = Err StrayBit

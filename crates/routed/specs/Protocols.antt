@@ -1,4 +1,8 @@
--- A protocol under a mask. Assumes nothing.
+-- A protocol under a mask.
+--     isProtocol       protocol AND mask equals the value
+--     protocolAdmits   the values that it admits at a bit
+--     protocolOf       the protocol match that two numbers make, or what is wrong with them
+-- Assumes nothing.
 use mathlib.Core.Path.{_≡_}
 use mathlib.Core.Bool.{Bool, true, _||_, Bool-discrete}
 use Prim.Native.Nat.{ℕ}
@@ -22,6 +26,7 @@ protocolAdmits p b v = maskAdmits 8 (p .value) (p .mask) b v
 abbrev pub whole : ℕ → Bool
 whole mask = eqb mask 0 || eqb mask 255
 
+-- the protocol, or the first check that fails: the mask, then a value bit outside it
 abbrev pub protocolIf : (value mask : ℕ) → Dec (whole mask ≡ true) → Dec (bitAnd value mask ≡ value) → Result ProtocolMatch Defect
 protocolIf value mask (no _) inside = Err ProtocolMask
 protocolIf value mask (yes whole) (no _) = Err StrayBit

@@ -1,4 +1,10 @@
--- A port range. Assumes nothing.
+-- A port range.
+--     inRange       a port lies in it
+--     SomePort      some port in it has a value at a bit
+--     rangeAdmits   that as a test, by trying the ports
+--     endsAdmit     that as a test, by the two ends
+--     rangeOf       the range that two numbers make, or what is wrong with them
+-- Assumes nothing.
 use mathlib.Core.Path.{_≡_}
 use mathlib.Core.Bool.{Bool, true, false, not, _&&_, _||_, Bool·beq}
 use Prim.Native.Nat.{ℕ, zero, suc, _+_, _-_, _/_, _^_, _≤_}
@@ -23,7 +29,7 @@ abbrev pub someBelow : (ℕ → Bool) → ℕ → Bool
 someBelow test zero = false
 someBelow test (suc n) = test n || someBelow test n
 
--- the same as a test: it passes exactly when there is some port
+-- whether some port in the range has the value v at bit b
 abbrev pub rangeAdmits : PortRange → ℕ → Bool → Bool
 rangeAdmits r b v = someBelow (λ port. inRange r port && Bool·beq (bitOf 16 port b) v) (r .high + 1)
 
@@ -31,6 +37,7 @@ rangeAdmits r b v = someBelow (λ port. inRange r port && Bool·beq (bitOf 16 po
 abbrev pub endsAdmit : PortRange → ℕ → Bool → Bool
 endsAdmit r b v = not (eqb (r .low / 2 ^ (15 - b)) (r .high / 2 ^ (15 - b))) || Bool·beq (bitOf 16 (r .low) b) v
 
+-- the range, or the check that fails
 abbrev pub rangeIf : (low high : ℕ) → Dec (low ≤ high) → Result PortRange Defect
 rangeIf low high (no _) = Err RangeOrder
 rangeIf low high (yes ordered) = Ok (record { low = low; high = high; ordered = ordered })
