@@ -4,6 +4,7 @@ ghost use mathlib.Core.Bool.{true};
 ghost use Rattle.bridge.specs.Inside.{inside};
 use super::octets::Octets;
 
+// The plain numbers of a rule; not all of them hold one.
 #[derive(Clone, Copy)]
 pub struct Row {
     pub value: Octets,

@@ -31,6 +31,7 @@ pub struct ProtocolMatch {
     ghost inside: { bitAnd value mask ≡ value },
 }
 
+// A rule: it matches a header that lies in every part.
 #[derive(Clone, Copy)]
 pub struct Rule {
     pub source: Prefix,
@@ -40,6 +41,7 @@ pub struct Rule {
     pub protocol: ProtocolMatch,
 }
 
+// The plain numbers of a rule; not all of them hold one.
 #[derive(Clone, Copy)]
 pub struct Row {
     pub source: u32,
