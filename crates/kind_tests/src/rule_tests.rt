@@ -31,28 +31,31 @@ fn refusal(row: &Row) -> (u16, u16, usize) {
 }
 
 fn prefixes(source: u32, source_length: u8, destination: u32, destination_length: u8) -> Row {
-    let mut row = OPEN;
-    row.source = source;
-    row.source_length = source_length;
-    row.destination = destination;
-    row.destination_length = destination_length;
-    row
+    Row {
+        source,
+        source_length,
+        destination,
+        destination_length,
+        ..OPEN
+    }
 }
 
 fn ports(source_low: u16, source_high: u16, destination_low: u16, destination_high: u16) -> Row {
-    let mut row = OPEN;
-    row.source_low = source_low;
-    row.source_high = source_high;
-    row.destination_low = destination_low;
-    row.destination_high = destination_high;
-    row
+    Row {
+        source_low,
+        source_high,
+        destination_low,
+        destination_high,
+        ..OPEN
+    }
 }
 
 fn protocol(protocol: u8, mask: u8) -> Row {
-    let mut row = OPEN;
-    row.protocol = protocol;
-    row.mask = mask;
-    row
+    Row {
+        protocol,
+        mask,
+        ..OPEN
+    }
 }
 
 #[test]

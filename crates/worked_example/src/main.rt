@@ -1,6 +1,7 @@
 // A client of the two kinds: it filters frames by a bridge list and packets by a routed list, and says what it does.
 mod frames;
 mod packets;
+mod samples;
 mod say;
 
 use std::io;
