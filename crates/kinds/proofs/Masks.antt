@@ -24,16 +24,18 @@ digit-and a b place =
     ∙ ap (λ (n : ℕ). eqb n 1) (and-mod (a / 2 ^ place) (b / 2 ^ place) 1)
     ∙ one-and (a / 2 ^ place % 2) (b / 2 ^ place % 2) (mod-below (a / 2 ^ place) 2 (omega arith)) (mod-below (b / 2 ^ place) 2 (omega arith))
 
-own-bit : (n mask value : Bool) → value ≡ (n && mask) → cond mask (Bool·beq n value) true ≡ true
-own-bit true true true e = refl
-own-bit true true false e = e
-own-bit true false value e = refl
-own-bit false true true e = sym e
-own-bit false true false e = refl
-own-bit false false value e = refl
+-- a bit that is asked for under a test is admitted where the two agree
+pub own-bit : (test bit own : Bool) → (test ≡ true → bit ≡ own) → cond test (Bool·beq bit own) true ≡ true
+own-bit true true own e = ap (Bool·beq true) (sym (e refl))
+own-bit true false own e = ap (Bool·beq false) (sym (e refl))
+own-bit false bit own e = refl
+
+and-true : (x y : Bool) → y ≡ true → (x && y) ≡ x
+and-true true y e = e
+and-true false y e = refl
 
 -- a number that matches under a mask has, at each bit, a value that is admitted
 pub mask-agrees : (width value mask n b : ℕ) → maskMatches value mask n ≡ true → maskAdmits width value mask b (bitOf width n b) ≡ true
 mask-agrees width value mask n b e =
-    own-bit (bitOf width n b) (bitOf width mask b) (bitOf width value b)
-    (ap (λ (x : ℕ). bitOf width x b) (sym (eqb-true (bitAnd n mask) value e)) ∙ digit-and n mask (width - 1 - b))
+    own-bit (bitOf width mask b) (bitOf width n b) (bitOf width value b) (λ t.
+    sym (ap (λ (x : ℕ). bitOf width x b) (sym (eqb-true (bitAnd n mask) value e)) ∙ digit-and n mask (width - 1 - b) ∙ and-true (bitOf width n b) (bitOf width mask b) t))

@@ -1,14 +1,13 @@
 -- A port range admits a value at a bit exactly when some port in it has that value there.
 use mathlib.Core.Path.{_≡_, refl, ap, sym, _∙_}
-use mathlib.Core.Bool.{Bool, true, false, not, _&&_, _||_, Bool·beq}
-use mathlib.Core.Logic.{_⊎_, inl, inr}
+use mathlib.Core.Bool.{Bool, true, false, not, _&&_, _||_, Bool·beq, Bool-discrete}
 use Prim.Native.Nat.{ℕ, _+_, _*_, _-_, _/_, _%_, _^_, _≤_}
 use native.Mathlib.Omega.{arith}
 use native.Mathlib.Nat.{add-mul}
 use lib.Dec.{eqb, leb}
 use Rattle.std.specs.Orderings.{Decides}
 use Rattle.std.proofs.shelf.Bits.{pow-pos, shl-shr, div-add-mod', mod-below, le-div, mul-le}
-use Rattle.std.proofs.shelf.Tests.{and-parts, and-from, leb-true, le-leb, true≢false, false≢true}
+use Rattle.std.proofs.shelf.Tests.{and-parts, and-from, leb-true, le-leb, true≢false}
 use Rattle.std.proofs.shelf.Ways.{tells, decides-and, decides-eqb, decides-below-or, decides-like, same-from-decides}
 use Rattle.kinds.specs.Bits.{digit, bitOf}
 use Rattle.routed.specs.Ranges.{inRange, SomePort, someBelow, rangeAdmits, endsAdmit}
@@ -22,12 +21,6 @@ decides-beq true true = ((λ e. refl), (λ e. refl))
 decides-beq true false = ((λ e. sym e), (λ e. sym e))
 decides-beq false true = ((λ e. e), (λ e. e))
 decides-beq false false = ((λ e. refl), (λ e. refl))
-
-cases-same : (x y : Bool) → (x ≡ y) ⊎ (x ≡ y → ⊥)
-cases-same true true = inl refl
-cases-same true false = inr true≢false
-cases-same false true = inr false≢true
-cases-same false false = inl refl
 
 odd-next : (n : ℕ) → eqb ((n + 1) % 2) 1 ≡ not (eqb (n % 2) 1)
 odd-next n = grind (arith, tells)
@@ -91,9 +84,9 @@ module _ (r : PortRange) (b : ℕ) (v : Bool) where
 
   ends-differ : (r .low / 2 ^ (15 - b) ≡ r .high / 2 ^ (15 - b) → ⊥) → SomePort r b v
   ends-differ ne =
-      elim (cases-same (bitOf 16 (r .low) b) v) [
-        | inl same ↦ (r .low, in-range (r .low) (omega arith) (r .ordered), same)
-        | inr other ↦ (
+      elim (Bool-discrete (bitOf 16 (r .low) b) v) [
+        | yes same ↦ (r .low, in-range (r .low) (omega arith) (r .ordered), same)
+        | no other ↦ (
           next (r .low) (r .high) (15 - b) (r .ordered),
           in-range _ (next-above (r .low) (r .high) (15 - b) (r .ordered)) (next-below (r .low) (r .high) (15 - b) (r .ordered) ne),
           next-digit (r .low) (r .high) (15 - b) (r .ordered) ∙ not-same (bitOf 16 (r .low) b) v other,

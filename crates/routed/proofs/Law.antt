@@ -1,6 +1,6 @@
 -- The routed kind's law, field by field.
 use mathlib.Core.Path.{_≡_, refl, ap, sym, _∙_}
-use mathlib.Core.Bool.{Bool, true, false, cond, Bool·beq}
+use mathlib.Core.Bool.{true}
 use Prim.Native.Nat.{ℕ, _+_, _-_, _/_, _%_, _^_, _≤_, _<_}
 use native.Mathlib.Omega.{arith}
 use lib.Dec.{eqb, ltb}
@@ -8,7 +8,7 @@ use Rattle.std.proofs.shelf.Bits.{shr-shr}
 use Rattle.std.proofs.shelf.Tests.{eqb-true, ltb-true}
 use Rattle.kinds.specs.Meaning.{Lawful}
 use Rattle.kinds.specs.Bits.{bitOf}
-use Rattle.kinds.proofs.Masks.{mask-agrees}
+use Rattle.kinds.proofs.Masks.{own-bit, mask-agrees}
 use Rattle.kinds.proofs.Rows.{fields-lawful}
 use Rattle.routed.specs.Prefixes.{inPrefix, prefixAdmits}
 use Rattle.routed.specs.Ranges.{inRange, rangeAdmits}
@@ -23,14 +23,9 @@ shifted n length b lt le =
     let e : 31 - b ≡ (32 - length) + (length - 1 - b) = omega arith in
     ap (λ (k : ℕ). n / 2 ^ k) e ∙ sym (shr-shr n (32 - length) (length - 1 - b))
 
-own : (t v w : Bool) → (t ≡ true → v ≡ w) → cond t (Bool·beq v w) true ≡ true
-own true true w e = ap (λ (x : Bool). Bool·beq true x) (sym (e refl))
-own true false w e = ap (λ (x : Bool). Bool·beq false x) (sym (e refl))
-own false v w e = refl
-
 prefix-agrees : (p : Prefix) (n : ℕ) → inPrefix p n ≡ true → (b : ℕ) → prefixAdmits p b (bitOf 32 n b) ≡ true
 prefix-agrees p n e b =
-    own (ltb b (p .length)) (bitOf 32 n b) (bitOf 32 (p .address) b) (λ t.
+    own-bit (ltb b (p .length)) (bitOf 32 n b) (bitOf 32 (p .address) b) (λ t.
     let lt = ltb-true b (p .length) t in
     let same = eqb-true (n / 2 ^ (32 - p .length)) (p .address / 2 ^ (32 - p .length)) e in
     ap (λ (k : ℕ). eqb (k % 2) 1) (shifted n (p .length) b lt (p .short) ∙ ap (λ (k : ℕ). k / 2 ^ (p .length - 1 - b)) same ∙ sym (shifted (p .address) (p .length) b lt (p .short))))
