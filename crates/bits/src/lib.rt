@@ -1,4 +1,6 @@
 // The chosen bits of a table: at most twelve rising numbers, kept as single numbers.
+#![tactic(auto)]
+
 mod set;
 mod sets;
 

@@ -10,7 +10,7 @@ use kinds::{Kind, Line};
 
 // The number made of a header's values at the bits, the first bit most significant.
 pub fn cell_of<K: Kind>(bits: &Bits, header: &K::Header) -> usize
-    ensures answer { result ≡ cell_of meaning (bits_of bits.now) header.now }
+    ensures answer { result ≡ cell_of K.meaning (bits_of bits.now) header.now }
     ensures bound { result < 2 ^ length (bits_of bits.now) }
 {
     let mut cell: usize = 0;
@@ -22,7 +22,7 @@ pub fn cell_of<K: Kind>(bits: &Bits, header: &K::Header) -> usize
 
 // Whether a rule admits a cell's value at each bit.
 fn admits_cell<K: Kind>(rule: &K::Rule, bits: &Bits, cell: usize) -> bool
-    ensures { result ≡ admits_cell meaning rule.now (bits_of bits.now) cell }
+    ensures { result ≡ admits_cell K.meaning rule.now (bits_of bits.now) cell }
 {
     let len = bits.len();
     for place in 0..len {
@@ -36,7 +36,7 @@ fn admits_cell<K: Kind>(rule: &K::Rule, bits: &Bits, cell: usize) -> bool
 
 // Whether a line is filled and its rule admits a cell.
 pub fn admits<K: Kind>(line: &Line<K::Row>, bits: &Bits, cell: usize) -> bool
-    ensures { result ≡ admits_line meaning (rule_of meaning line.now) (bits_of bits.now) cell }
+    ensures { result ≡ admits_line K.meaning (rule_of K.meaning line.now) (bits_of bits.now) cell }
 {
     match kinds::rule_of::<K>(line) {
         Some(rule) => admits_cell::<K>(&rule, bits, cell),

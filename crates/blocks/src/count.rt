@@ -29,7 +29,7 @@ pub(crate) fn block_size<K: Kind>(
     cell: usize,
 ) -> u32
     requires { length lines.now ≤ 16384 }
-    ensures { result ≡ length (block meaning (rules_of meaning (changed change.now lines.now)) (bits_of bits.now) cell) }
+    ensures { result ≡ length (block K.meaning (rules_of K.meaning (changed change.now lines.now)) (bits_of bits.now) cell) }
 {
     let mut size: u32 = 0;
     for i in 0..lines.len() {

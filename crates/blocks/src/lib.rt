@@ -1,4 +1,6 @@
 // Cells and blocks of a list of lines, counted into a lent tally. Written once for every kind.
+#![tactic(auto)]
+
 mod cell;
 mod change;
 mod clear;

@@ -44,7 +44,7 @@ impl Tally<'_> {
     fn count<K: Kind>(&mut self, lines: &[Line<K::Row>], change: &Change<K::Row>, bits: &Bits)
         requires few { length lines.now ≤ 16384 }
         requires long { 2 ^ length (bits_of bits.now) ≤ length self.old.cells.now }
-        ensures counted { take (2 ^ length (bits_of bits.now)) self.new.cells.now ≡ sizes meaning (rules_of meaning (changed change.now lines.now)) (bits_of bits.now) }
+        ensures counted { take (2 ^ length (bits_of bits.now)) self.new.cells.now ≡ sizes K.meaning (rules_of K.meaning (changed change.now lines.now)) (bits_of bits.now) }
         ensures len { length self.new.cells.now ≡ length self.old.cells.now }
         ensures same { self.new.cells.ghost_name ≡ self.old.cells.ghost_name }
     {
@@ -74,8 +74,8 @@ impl Tally<'_> {
     ) -> usize
         requires few { length lines.now ≤ 16384 }
         requires long { 2 ^ length (bits_of bits.now) ≤ length self.old.cells.now }
-        ensures answer { result ≡ table_size meaning (rules_of meaning (changed change.now lines.now)) (bits_of bits.now) }
-        ensures counted { take (2 ^ length (bits_of bits.now)) self.new.cells.now ≡ sizes meaning (rules_of meaning (changed change.now lines.now)) (bits_of bits.now) }
+        ensures answer { result ≡ table_size K.meaning (rules_of K.meaning (changed change.now lines.now)) (bits_of bits.now) }
+        ensures counted { take (2 ^ length (bits_of bits.now)) self.new.cells.now ≡ sizes K.meaning (rules_of K.meaning (changed change.now lines.now)) (bits_of bits.now) }
         ensures len { length self.new.cells.now ≡ length self.old.cells.now }
         ensures same { self.new.cells.ghost_name ≡ self.old.cells.ghost_name }
     {
@@ -91,8 +91,8 @@ impl Tally<'_> {
         bits: &Bits,
         room: usize,
     ) -> Result<(), Refusal>
-        ensures answer { result ≡ checked (count_checks (length lines.now) (length (bits_of bits.now)) (length self.old.cells.now) (table_size meaning (rules_of meaning (changed change.now lines.now)) (bits_of bits.now)) room) tt }
-        ensures counted { is_ok result ≡ true → take (2 ^ length (bits_of bits.now)) self.new.cells.now ≡ sizes meaning (rules_of meaning (changed change.now lines.now)) (bits_of bits.now) }
+        ensures answer { result ≡ checked (count_checks (length lines.now) (length (bits_of bits.now)) (length self.old.cells.now) (table_size K.meaning (rules_of K.meaning (changed change.now lines.now)) (bits_of bits.now)) room) tt }
+        ensures counted { is_ok result ≡ true → take (2 ^ length (bits_of bits.now)) self.new.cells.now ≡ sizes K.meaning (rules_of K.meaning (changed change.now lines.now)) (bits_of bits.now) }
         ensures len { length self.new.cells.now ≡ length self.old.cells.now }
         ensures same { self.new.cells.ghost_name ≡ self.old.cells.ghost_name }
     {
@@ -111,7 +111,7 @@ impl Tally<'_> {
         room: usize,
         judge: &J,
     ) -> Result<u64, Refusal>
-        ensures answer { result ≡ checked (count_checks (length lines.now) (length (bits_of bits.now)) (length self.old.cells.now) (table_size K.Kind.meaning (rules_of K.Kind.meaning lines.now) (bits_of bits.now)) room) (J.Judge.cost judge.now (sizes K.Kind.meaning (rules_of K.Kind.meaning lines.now) (bits_of bits.now))) }
+        ensures answer { result ≡ checked (count_checks (length lines.now) (length (bits_of bits.now)) (length self.old.cells.now) (table_size K.meaning (rules_of K.meaning lines.now) (bits_of bits.now)) room) (J.cost judge.now (sizes K.meaning (rules_of K.meaning lines.now) (bits_of bits.now))) }
         ensures len { length self.new.cells.now ≡ length self.old.cells.now }
         ensures same { self.new.cells.ghost_name ≡ self.old.cells.ghost_name }
     {

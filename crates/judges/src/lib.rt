@@ -1,4 +1,6 @@
 // Judges, which tell the cost of a list of block sizes, and two of them.
+#![tactic(auto)]
+
 mod judge;
 mod largest;
 mod squares;

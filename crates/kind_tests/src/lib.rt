@@ -1,4 +1,6 @@
 // Examples of the two kinds, run: readings of packets and frames, limits, refusals, admission of ranges.
+#![tactic(auto)]
+
 #[cfg(test)]
 mod bridge_tests;
 #[cfg(test)]

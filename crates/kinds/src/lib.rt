@@ -1,4 +1,6 @@
 // What every kind of header has in common: its meaning and law, the lines that hold its rules, and the code of a fault.
+#![tactic(auto)]
+
 mod code;
 mod kind;
 mod line;

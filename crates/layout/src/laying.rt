@@ -4,7 +4,7 @@ ghost use Rattle.std.specs.List.{flat_map};
 ghost use Rattle.kinds.specs.Checks.{checked};
 ghost use Rattle.kinds.specs.Lines.{rules_of};
 ghost use Rattle.bits.specs.Chosen.{bits_of};
-ghost use Rattle.blocks.specs.Blocks.{table_size, Fits, block, block_below, blocks as allBlocks, sizes as allSizes};
+ghost use Rattle.blocks.specs.Blocks.{table_size, Fits, block, block_below, blocks as all_blocks, sizes as all_sizes};
 ghost use Rattle.blocks.specs.Counts.{count_checks, began};
 ghost use Rattle.layout.specs.Layout.{starts_from, laid};
 
@@ -40,11 +40,11 @@ fn write_line<K: Kind>(
 ) -> usize
     requires few { length lines.now ≤ 16384 }
     requires named { line < length lines.now }
-    requires room { at + length (block meaning (rules_of meaning lines.now) (bits_of bits.now) cell) ≤ length area.old }
-    requires count { done ≡ length (block_below meaning (rules_of meaning lines.now) (bits_of bits.now) cell line) }
-    requires entries { take (at + done) area.old ≡ take at area.old ++ block_below meaning (rules_of meaning lines.now) (bits_of bits.now) cell line }
-    ensures count { result ≡ length (block_below meaning (rules_of meaning lines.now) (bits_of bits.now) cell (line + 1)) }
-    ensures entries { take (at + result) area.new ≡ take at area.new ++ block_below meaning (rules_of meaning lines.now) (bits_of bits.now) cell (line + 1) }
+    requires room { at + length (block K.meaning (rules_of K.meaning lines.now) (bits_of bits.now) cell) ≤ length area.old }
+    requires count { done ≡ length (block_below K.meaning (rules_of K.meaning lines.now) (bits_of bits.now) cell line) }
+    requires entries { take (at + done) area.old ≡ take at area.old ++ block_below K.meaning (rules_of K.meaning lines.now) (bits_of bits.now) cell line }
+    ensures count { result ≡ length (block_below K.meaning (rules_of K.meaning lines.now) (bits_of bits.now) cell (line + 1)) }
+    ensures entries { take (at + result) area.new ≡ take at area.new ++ block_below K.meaning (rules_of K.meaning lines.now) (bits_of bits.now) cell (line + 1) }
     ensures front { take at area.new ≡ take at area.old }
 {
     if !blocks::admits::<K>(&lines[line], bits, cell) {
@@ -63,9 +63,9 @@ fn write_block<K: Kind>(
     at: usize,
 ) -> usize
     requires few { length lines.now ≤ 16384 }
-    requires room { at + length (block meaning (rules_of meaning lines.now) (bits_of bits.now) cell) ≤ length area.old }
-    ensures end { result ≡ at + length (block meaning (rules_of meaning lines.now) (bits_of bits.now) cell) }
-    ensures entries { take result area.new ≡ take at area.old ++ block meaning (rules_of meaning lines.now) (bits_of bits.now) cell }
+    requires room { at + length (block K.meaning (rules_of K.meaning lines.now) (bits_of bits.now) cell) ≤ length area.old }
+    ensures end { result ≡ at + length (block K.meaning (rules_of K.meaning lines.now) (bits_of bits.now) cell) }
+    ensures entries { take result area.new ≡ take at area.old ++ block K.meaning (rules_of K.meaning lines.now) (bits_of bits.now) cell }
 {
     let mut done: usize = 0;
     for line in 0..lines.len() {
@@ -77,9 +77,9 @@ fn write_block<K: Kind>(
 // Writes all blocks in cell order from a place on; tells the first place behind.
 fn write_blocks<K: Kind>(lines: &[Line<K::Row>], bits: &Bits, area: &mut [u32], at: usize) -> usize
     requires few { length lines.now ≤ 16384 }
-    requires room { at + sum (allSizes meaning (rules_of meaning lines.now) (bits_of bits.now)) ≤ length area.old }
-    ensures end { result ≡ at + sum (allSizes meaning (rules_of meaning lines.now) (bits_of bits.now)) }
-    ensures entries { take result area.new ≡ take at area.old ++ flat_map (λ entries. entries) (allBlocks meaning (rules_of meaning lines.now) (bits_of bits.now)) }
+    requires room { at + sum (all_sizes K.meaning (rules_of K.meaning lines.now) (bits_of bits.now)) ≤ length area.old }
+    ensures end { result ≡ at + sum (all_sizes K.meaning (rules_of K.meaning lines.now) (bits_of bits.now)) }
+    ensures entries { take result area.new ≡ take at area.old ++ flat_map (λ entries. entries) (all_blocks K.meaning (rules_of K.meaning lines.now) (bits_of bits.now)) }
 {
     let mut next = at;
     for cell in 0..bits.cells() {
@@ -91,9 +91,9 @@ fn write_blocks<K: Kind>(lines: &[Line<K::Row>], bits: &Bits, area: &mut [u32], 
 // Writes a whole table that was counted and fits.
 fn write_table<K: Kind>(lines: &[Line<K::Row>], bits: &Bits, sizes: &[u32], area: &mut [u32])
     requires few { length lines.now ≤ 16384 }
-    requires counted { sizes.now ≡ allSizes meaning (rules_of meaning lines.now) (bits_of bits.now) }
-    requires room { Fits meaning (rules_of meaning lines.now) (bits_of bits.now) (length area.old) }
-    ensures { area.new ≡ laid meaning (rules_of meaning lines.now) (bits_of bits.now) (length area.old) }
+    requires counted { sizes.now ≡ all_sizes K.meaning (rules_of K.meaning lines.now) (bits_of bits.now) }
+    requires room { Fits K.meaning (rules_of K.meaning lines.now) (bits_of bits.now) (length area.old) }
+    ensures { area.new ≡ laid K.meaning (rules_of K.meaning lines.now) (bits_of bits.now) (length area.old) }
 {
     let base = write_starts(sizes, area);
     let end = write_blocks::<K>(lines, bits, area, base);
@@ -107,8 +107,8 @@ pub fn lay<K: Kind>(
     area: &mut [u32],
     tally: &mut [u32],
 ) -> Result<(), Refusal>
-    ensures answer { result ≡ checked (count_checks (length lines.now) (length (bits_of bits.now)) (length tally.old) (table_size meaning (rules_of meaning lines.now) (bits_of bits.now)) (length area.old)) tt }
-    ensures area { area.new ≡ (if is_ok result then laid meaning (rules_of meaning lines.now) (bits_of bits.now) (length area.old) else area.old) }
+    ensures answer { result ≡ checked (count_checks (length lines.now) (length (bits_of bits.now)) (length tally.old) (table_size K.meaning (rules_of K.meaning lines.now) (bits_of bits.now)) (length area.old)) tt }
+    ensures area { area.new ≡ (if is_ok result then laid K.meaning (rules_of K.meaning lines.now) (bits_of bits.now) (length area.old) else area.old) }
     ensures tally { tally.new ≡ (if began result then replicate (length tally.old) 0 else tally.old) }
 {
     blocks::ready(lines.len(), bits, tally.len())?;

@@ -1,4 +1,6 @@
 // Tables in a lent area: laying one, and looking into an area of any content. Written once for every kind.
+#![tactic(auto)]
+
 mod laying;
 mod looking;
 mod spoilt;

@@ -17,7 +17,7 @@ fn entries_of<'a, K: Kind>(
     area: &'a [u32],
     header: &K::Header,
 ) -> Result<&'a [u32], Spoilt>
-    ensures { Hands (block_in (length (bits_of bits.now)) area.now (cell_of meaning (bits_of bits.now) header.now)) result }
+    ensures { Hands (block_in (length (bits_of bits.now)) area.now (cell_of K.meaning (bits_of bits.now) header.now)) result }
 {
     let base = bits.cells() + 1;
     if area.len() < base {
@@ -34,7 +34,7 @@ fn entries_of<'a, K: Kind>(
 
 // The rule of the line that an entry names, or none where it names no filled line.
 fn rule_at<K: Kind>(lines: &[Line<K::Row>], entry: usize) -> Option<K::Rule>
-    ensures { result ≡ slice_index_or (rules_of meaning lines.now) entry None }
+    ensures { result ≡ slice_index_or (rules_of K.meaning lines.now) entry None }
 {
     if entry < lines.len() {
         kinds::rule_of::<K>(&lines[entry])
@@ -49,7 +49,7 @@ fn walk<K: Kind>(
     entries: &[u32],
     header: &K::Header,
 ) -> Result<(Option<usize>, usize), Spoilt>
-    ensures { result ≡ walked meaning (rules_of meaning lines.now) header.now 0 entries.now }
+    ensures { result ≡ walked K.meaning (rules_of K.meaning lines.now) header.now 0 entries.now }
 {
     for i in 0..entries.len() {
         let line = entries[i] as usize;
@@ -70,7 +70,7 @@ fn try_block<K: Kind>(
     area: &[u32],
     header: &K::Header,
 ) -> Result<(Option<usize>, usize), Spoilt>
-    ensures { result ≡ looked_up meaning (rules_of meaning lines.now) (bits_of bits.now) header.now area.now }
+    ensures { result ≡ looked_up K.meaning (rules_of K.meaning lines.now) (bits_of bits.now) header.now area.now }
 {
     let entries = entries_of::<K>(bits, area, header)?;
     walk::<K>(lines, entries, header)
@@ -82,8 +82,8 @@ pub fn block<'a, K: Kind>(
     area: &'a [u32],
     header: &K::Header,
 ) -> Result<&'a [u32], Spoilt>
-    ensures answer { Hands (block_in (length (bits_of bits.now)) area.now (cell_of meaning (bits_of bits.now) header.now)) result }
-    ensures facts { (rules : List (Option _)) → area.now ≡ laid meaning rules (bits_of bits.now) (length area.now) → Hands (Ok (block_of meaning rules (bits_of bits.now) (cell_of meaning (bits_of bits.now) header.now))) result }
+    ensures answer { Hands (block_in (length (bits_of bits.now)) area.now (cell_of K.meaning (bits_of bits.now) header.now)) result }
+    ensures facts { (rules : List (Option _)) → area.now ≡ laid K.meaning rules (bits_of bits.now) (length area.now) → Hands (Ok (block_of K.meaning rules (bits_of bits.now) (cell_of K.meaning (bits_of bits.now) header.now))) result }
 {
     entries_of::<K>(bits, area, header)
 }
@@ -95,9 +95,9 @@ pub fn look_up<K: Kind>(
     area: &[u32],
     header: &K::Header,
 ) -> Result<(Option<usize>, usize), Spoilt>
-    ensures answer { result ≡ looked_up meaning (rules_of meaning lines.now) (bits_of bits.now) header.now area.now }
-    ensures walk { Looks meaning (rules_of meaning lines.now) header.now (block_in (length (bits_of bits.now)) area.now (cell_of meaning (bits_of bits.now) header.now)) result }
-    ensures facts { area.now ≡ laid meaning (rules_of meaning lines.now) (bits_of bits.now) (length area.now) → FindsLowest meaning (rules_of meaning lines.now) (bits_of bits.now) header.now result }
+    ensures answer { result ≡ looked_up K.meaning (rules_of K.meaning lines.now) (bits_of bits.now) header.now area.now }
+    ensures walk { Looks K.meaning (rules_of K.meaning lines.now) header.now (block_in (length (bits_of bits.now)) area.now (cell_of K.meaning (bits_of bits.now) header.now)) result }
+    ensures facts { area.now ≡ laid K.meaning (rules_of K.meaning lines.now) (bits_of bits.now) (length area.now) → FindsLowest K.meaning (rules_of K.meaning lines.now) (bits_of bits.now) header.now result }
 {
     try_block::<K>(lines, bits, area, header)
 }

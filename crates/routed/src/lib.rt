@@ -1,4 +1,6 @@
 // The routed kind: IPv4 packets by addresses, ports and protocol.
+#![tactic(auto)]
+
 mod checks;
 mod fault;
 mod kind;

@@ -1,4 +1,6 @@
 // Seven bridge lines, and worked cases of the tables that are made of them.
+#![tactic(auto)]
+
 ghost use Rattle.std.specs.Prelude.{◌≡◌};
 ghost use Rattle.kinds.specs.Lines.{rules_of};
 ghost use Rattle.bridge.specs.Bridge.{bridge};

@@ -1,4 +1,6 @@
 // Examples of tables, run: sets of bits, what is laid and refused, and what sound and spoilt areas answer.
+#![tactic(auto)]
+
 #[cfg(test)]
 mod bits_tests;
 #[cfg(test)]

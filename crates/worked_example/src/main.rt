@@ -1,4 +1,6 @@
 // A client of the two kinds: it filters frames by a bridge list and packets by a routed list, and says what it does.
+#![tactic(auto)]
+
 mod frames;
 mod packets;
 mod samples;
