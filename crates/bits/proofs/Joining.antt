@@ -90,4 +90,4 @@ module _ (s : Bits) (b : ℕ) (after : List ℕ) (is : after ≡ handed_on b (pl
       rw is (free_handed_on 1024 s.count b k (places s) (omega arith) q (omega (arith, low)) (λ e. absurd (omega arith)) s.free (λ j h. omega (arith, s.below j h)))
 
   pub joined_sound : Sound (s.count + 1) after
-  joined_sound = (omega arith, (rising_joined, (below_joined, (free_joined, tt))))
+  joined_sound = record { few = omega arith; rises = rising_joined; below = below_joined; free = free_joined }

@@ -103,4 +103,4 @@ module _ (s : Bits) (out : ℕ) (after : List ℕ) (is : after ≡ moved_up out 
       ]
 
   pub parted_sound : Sound (s.count - 1) after
-  parted_sound = (omega (arith, s.few), (ap rising bits_parted ∙ rising_without out (bits_of s) s.rises, (below_parted, (free_parted, tt))))
+  parted_sound = record { few = omega (arith, s.few); rises = ap rising bits_parted ∙ rising_without out (bits_of s) s.rises; below = below_parted; free = free_parted }

@@ -1,4 +1,4 @@
-use Rattle.std.proofs.Common.{sym, ◌∙◌, arith}
+use Rattle.std.proofs.Common.{sym, ◌∙◌, arith, below_more}
 use Rattle.bits.specs.Chosen.{bits_of}
 use Rattle.bits.proofs.Facts.{length-bits_of}
 use Rattle.bits.proofs.Members.{member_none, member_at}
@@ -13,3 +13,6 @@ pub returns : goal.returns
 returns c =
     let s = c.args.self.now in
     sym (member_none c.args.bit (bits_of s) (λ k lt e. c.loop-place.invariant k (omega (arith, length-bits_of s)) e))
+
+pub loop-place-preserved : goal.loop-place-preserved
+loop-place-preserved c = below_more _ _ c.loop-place.invariant (λ e. c.if-at-bit.false (c.at.ensures ∙ e))

@@ -10,8 +10,10 @@ after c = c.min-p0.result ∷ c.min-p1.result ∷ c.min-p2.result ∷ c.min-p3.r
 is : (c : After-min-p11) → after c ≡ handed_on c.args.bit (places c.args.self.now)
 is c = cc
 
-pub invariant-of-result : goal.invariant-of-result
-invariant-of-result c = joined_sound c.args.self.now c.args.bit (after c) (is c) c.requires.room c.requires.new
+pub invariant_of-result : goal.invariant_of-result
+invariant_of-result c =
+    let sound = joined_sound c.args.self.now c.args.bit (after c) (is c) c.requires.room c.requires.new in
+    record { few = sound.few; rises = sound.rises; below = sound.below; free = sound.free }
 
 pub returns : goal.returns
 returns c =

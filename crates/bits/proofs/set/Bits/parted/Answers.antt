@@ -10,8 +10,10 @@ after c = c.kept-p0.result ∷ c.kept-p1.result ∷ c.kept-p2.result ∷ c.kept-
 is : (c : After-kept-p11) → after c ≡ moved_up c.args.out (places c.args.self.now)
 is c = cc
 
-pub invariant-of-result : goal.invariant-of-result
-invariant-of-result c = parted_sound c.args.self.now c.args.out (after c) (is c) c.requires
+pub invariant_of-result : goal.invariant_of-result
+invariant_of-result c =
+    let sound = parted_sound c.args.self.now c.args.out (after c) (is c) c.requires in
+    record { few = sound.few; rises = sound.rises; below = sound.below; free = sound.free }
 
 pub returns : goal.returns
 returns c =
