@@ -3,8 +3,8 @@ use Rattle.bits.specs.Chosen.{bits_of}
 use Rattle.blocks.proofs.Cells.{cell_step, cell_end}
 use Rattle.blocks.proofs.cell.cell_of.Goals as goal
 
-pub overflow-mul-cell : goal.overflow-mul-cell
-overflow-mul-cell g c = let few : 2 ^ c.loop-place.place ≤ 4096 = pow_mono {j = 12} (omega arith) in omega arith
+pub overflow_mul-cell : goal.overflow_mul-cell
+overflow_mul-cell g c = let few : 2 ^ c.loop-place.place ≤ 4096 = pow_mono {j = 12} (omega arith) in omega arith
 
 pub loop-place-preserved : goal.loop-place-preserved
 loop-place-preserved g c =

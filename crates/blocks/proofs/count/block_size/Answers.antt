@@ -12,7 +12,7 @@ use Rattle.blocks.proofs.count.block_size.Goals.{then-admits, else-admits}
 -- one line more: the block grows where the line is in it
 turn : (g : given.Over) (c : goal.Joined-admits g) (t : Bool) → t ≡ c.admits.result → length (block_below g.K.Kind.meaning (rules_of g.K.Kind.meaning (changed c.args.change.now c.args.lines.now)) (bits_of c.args.bits.now) c.args.cell (c.loop-i.i + 1)) ≡ c.loop-i.size + cond t 1 0
 turn g c t e =
-    size_step g.K.Kind.meaning (changed c.args.change.now c.args.lines.now) (bits_of c.args.bits.now) c.args.cell c.loop-i.i c.loop-i.size c.line-at-line.result t (omega (arith, length-changed c.args.change.now c.args.lines.now)) c.line-at-line.ensures (e ∙ c.admits.ensures) c.loop-i.invariant.0
+    size_step g.K.Kind.meaning (changed c.args.change.now c.args.lines.now) (bits_of c.args.bits.now) c.args.cell c.loop-i.i c.loop-i.size c.line_at-line.result t (omega (arith, length-changed c.args.change.now c.args.lines.now)) c.line_at-line.ensures (e ∙ c.admits.ensures) c.loop-i.invariant.0
 
 pub loop-i-preserved : goal.loop-i-preserved
 loop-i-preserved g c = elim c.if-admits.branch [
