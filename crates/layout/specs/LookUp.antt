@@ -8,7 +8,7 @@
 -- Assumes nothing.
 use Rattle.std.specs.Prelude.{◌≡◌, ℕ, ◌+◌, ◌-◌, ◌^◌, ◌≤◌, false, cond, List, [], ◌∷◌, ◌++◌, length, get_or, take, drop, Some, None, Ok, Err, Option, Result, nat_lt, slice_index_or}
 use Rattle.std.specs.Borrow.{Bor}
-use Rattle.std.specs.List.{AllByRecursion as All}
+use Rattle.std.specs.List.{AllByRecursion}
 use Rattle.kinds.specs.Meaning.{Meaning}
 use Rattle.kinds.specs.Checks.{checked, ◌and_then◌}
 use Rattle.kinds.specs.Lines.{Matches, Lowest}
@@ -56,12 +56,12 @@ module _ {Header Rule Row : Type 0} (k : Meaning Header Rule Row) where
 
     -- with so many tried before
     abbrev pub WalksTo : Header → ℕ → List ℕ → Option ℕ → ℕ → Type 0
-    WalksTo h tried entries None end = All (Misses h) entries × (end ≡ tried + length entries)
-    WalksTo h tried entries (Some line) end = (before : List ℕ) × (behind : List ℕ) × (entries ≡ before ++ (line ∷ behind)) × All (Misses h) before × Matches k rules h line × (end ≡ tried + length before + 1)
+    WalksTo h tried entries None end = AllByRecursion (Misses h) entries × (end ≡ tried + length entries)
+    WalksTo h tried entries (Some line) end = (before : List ℕ) × (behind : List ℕ) × (entries ≡ before ++ (line ∷ behind)) × AllByRecursion (Misses h) before × Matches k rules h line × (end ≡ tried + length before + 1)
 
     abbrev pub Walks : Header → ℕ → List ℕ → Result (Option ℕ × ℕ) Spoilt → Type 0
     Walks h tried entries (Ok answer) = WalksTo h tried entries answer.0 answer.1
-    Walks h tried entries (Err Entry) = (before : List ℕ) × (line : ℕ) × (behind : List ℕ) × (entries ≡ before ++ (line ∷ behind)) × All (Misses h) before × (slice_index_or rules line None ≡ None)
+    Walks h tried entries (Err Entry) = (before : List ℕ) × (line : ℕ) × (behind : List ℕ) × (entries ≡ before ++ (line ∷ behind)) × AllByRecursion (Misses h) before × (slice_index_or rules line None ≡ None)
     Walks h tried entries (Err Bounds) = ⊥
 
     -- a look-up walks the entries that the area gives to the header's cell, or tells that they are bad

@@ -5,7 +5,7 @@
 --     Cases   they all hold
 -- Assumes nothing.
 use Rattle.std.specs.Prelude.{◌≡◌, ℕ, Bool, true, false, List, [], ◌∷◌, Some, None, Ok, Option}
-use Rattle.std.specs.List.{AllByRecursion as All}
+use Rattle.std.specs.List.{AllByRecursion}
 use Rattle.kinds.specs.Checks.{◌and_then◌}
 use Rattle.bridge.specs.Bridge.{bridge}
 use Rattle.routed.specs.Ranges.{range_of, range_admits}
@@ -66,4 +66,4 @@ cases =
     ∷ []
 
 abbrev pub Cases : Type 0
-Cases = All Holds cases
+Cases = AllByRecursion Holds cases

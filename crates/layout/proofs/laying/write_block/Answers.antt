@@ -5,8 +5,8 @@ use Rattle.blocks.proofs.Sizes.{below_size_le}
 use Rattle.layout.proofs.Writes.{block_written}
 use Rattle.layout.proofs.laying.write_block.Goals as goal
 
-pub overflow-add-result : goal.overflow-add-result
-overflow-add-result g c = omega (arith, below_size_le g.K.Kind.meaning (rules_of g.K.Kind.meaning c.args.lines.now) (bits_of c.args.bits.now) c.args.cell c.loop-line.line)
+pub overflow_add-result : goal.overflow_add-result
+overflow_add-result g c = omega (arith, below_size_le g.K.Kind.meaning (rules_of g.K.Kind.meaning c.args.lines.now) (bits_of c.args.bits.now) c.args.cell c.loop-line.line)
 
 pub returns : goal.returns
 returns g c =

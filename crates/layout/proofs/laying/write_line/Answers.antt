@@ -10,17 +10,17 @@ room g c =
     entry_room g.K.Kind.meaning (bits_of c.args.bits.now) c.args.lines.now c.args.cell c.args.at c.args.done c.args.line c.args.area.now c.index-lines-line.result c.requires.named c.index-lines-line.is c.requires.count c.requires.entries
     c.if-not-admits.ensures c.requires.room
 
-pub overflow-add-area : goal.overflow-add-area
-overflow-add-area g c = omega (arith, room g c)
+pub overflow_add-area : goal.overflow_add-area
+overflow_add-area g c = omega (arith, room g c)
 
-pub offset-bounds-area-at : goal.offset-bounds-area-at
-offset-bounds-area-at g c = omega (arith, room g c)
+pub offset_bounds-area-at : goal.offset_bounds-area-at
+offset_bounds-area-at g c = omega (arith, room g c)
 
 pub bounds-area-at : goal.bounds-area-at
 bounds-area-at g c = room g c
 
-pub overflow-add-result : goal.overflow-add-result
-overflow-add-result g c = omega (arith, room g c)
+pub overflow_add-result : goal.overflow_add-result
+overflow_add-result g c = omega (arith, room g c)
 
 pub returns-then-not-admits : goal.returns-then-not-admits
 returns-then-not-admits g c =

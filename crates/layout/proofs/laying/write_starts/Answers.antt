@@ -6,8 +6,8 @@ use Rattle.layout.proofs.Starts.{length_starts, starts_more}
 use Rattle.blocks.proofs.Fronts.{front_more}
 use Rattle.layout.proofs.laying.write_starts.Goals as goal
 
-pub overflow-add-start : goal.overflow-add-start
-overflow-add-start c = omega (arith, sum_by_more (λ x. x) c.args.sizes.now c.loop-cell.cell 0 c.loop-cell-test.true, sum_by-take-le (λ x. x) c.args.sizes.now (c.loop-cell.cell + 1))
+pub overflow_add-start : goal.overflow_add-start
+overflow_add-start c = omega (arith, sum_by_more (λ x. x) c.args.sizes.now c.loop-cell.cell 0 c.loop-cell-test.true, sum_by-take-le (λ x. x) c.args.sizes.now (c.loop-cell.cell + 1))
 
 pub loop-cell-preserved : goal.loop-cell-preserved
 loop-cell-preserved c = (

@@ -4,6 +4,6 @@ use Rattle.layout.proofs.looking.block.Goals as goal
 
 pub returns : goal.returns
 returns g c = record {
-  answer = c.entries-of.ensures;
-  facts = λ rules is-laid. block_handed g.K.Kind.meaning rules (bits_of c.args.bits.now) c.args.area.now c.args.header.now is-laid c.entries-of.result c.entries-of.ensures;
+  answer = c.entries_of.ensures;
+  facts = λ rules is-laid. block_handed g.K.Kind.meaning rules (bits_of c.args.bits.now) c.args.area.now c.args.header.now is-laid c.entries_of.result c.entries_of.ensures;
 }

@@ -14,7 +14,7 @@ returns g c =
     let bits = bits_of c.args.bits.now in
     let h = c.args.header.now in
     record {
-      answer = c.try-block.ensures;
-      walk = looks k rules h (block_in (length bits) c.args.area.now (cell_of k bits h)) c.try-block.result c.try-block.ensures;
-      facts = λ is-laid. finds_lowest k rules bits c.args.area.now h is-laid g.met.K.Kind.lawful c.try-block.result c.try-block.ensures;
+      answer = c.try_block.ensures;
+      walk = looks k rules h (block_in (length bits) c.args.area.now (cell_of k bits h)) c.try_block.result c.try_block.ensures;
+      facts = λ is-laid. finds_lowest k rules bits c.args.area.now h is-laid g.met.K.Kind.lawful c.try_block.result c.try_block.ensures;
     }

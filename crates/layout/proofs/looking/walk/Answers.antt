@@ -3,9 +3,9 @@ use Rattle.kinds.specs.Lines.{rules_of}
 use Rattle.layout.proofs.Tries.{tried_empty, tried_filled, tried_all}
 use Rattle.layout.proofs.looking.walk.Goals as goal
 
-pub returns-in-default : goal.returns-in-default
-returns-in-default g c =
-    sym (c.loop-i.invariant.0 ∙ tried_empty g.K.Kind.meaning (rules_of g.K.Kind.meaning c.args.lines.now) c.args.header.now c.args.entries.now c.loop-i.i c.loop-i-test.true c.in-default.ensures)
+pub returns-in_default : goal.returns-in_default
+returns-in_default g c =
+    sym (c.loop-i.invariant.0 ∙ tried_empty g.K.Kind.meaning (rules_of g.K.Kind.meaning c.args.lines.now) c.args.header.now c.args.entries.now c.loop-i.i c.loop-i-test.true c.in_default.ensures)
 
 pub returns-then-matches : goal.returns-then-matches
 returns-then-matches g c =
