@@ -1,7 +1,9 @@
 #!/usr/bin/env python3
 """Brings the repository's own definitions and lemmas to the library's spelling: words in snake case.
 
-Run once at the top, behind the kit's port.py. A table says every name, so that nothing falls together unseen. Functions of src/, strings, inputs and outputs are left alone.
+Run once at the top, behind the kit's port.py. A table says every name, so that nothing falls together unseen. In specs/ and
+proofs/ and in clauses each name is turned; in other lines of the code and in prose those in camel case alone, which no code
+and no English has. Names of the code stay as they are.
 """
 import glob
 import re
@@ -20,6 +22,7 @@ all-written        all_written
 and-true           and_true
 answerTo           answer_to
 areaOf             area_of
+base-is            base_is
 beginningWith      beginning_with
 below-handedOn     below_handed_on
 below-joined       below_joined
@@ -51,6 +54,7 @@ cellOf-push        cell_of_push
 codeOf             code_of
 comparedFor        compared_for
 countChecks        count_checks
+counted-line       counted_line
 counted-on         counted_on
 decides-beq        decides_beq
 decides-true       decides_true
@@ -93,11 +97,13 @@ hasPorts           has_ports
 headerBeginning    header_beginning
 headerLength       header_length
 headerOf           header_of
+in-it              in_it
 in-range           in_range_between
 in-rules           in_rules
 inField            in_field
 inPrefix           in_prefix
 inRange            in_range
+is-laid            is_laid
 isProtocol         is_protocol
 joined-sound       joined_sound
 joins-without      joins_without
@@ -126,6 +132,7 @@ lowest-here        lowest_here
 lowest-none        lowest_none
 lowest-of-all      lowest_of_all
 lowest-on          lowest_on
+lowest-some        lowest_some
 made-if            made_if
 markedLines        marked_lines
 mask-agrees        mask_agrees
@@ -147,15 +154,20 @@ never-past         never_past
 next-above         next_above
 next-below         next_below
 next-digit         next_digit
+next-is            next_is
+no-match           no_match
 none-takes         none_takes
 octetsBit          octets_bit
 odd-next           odd_next
 one-and            one_and
+one-more-to        one_more_to
 one-takes          one_takes
+one-tried          one_tried
 one-with           one_with
 only-zero-beyond   only_zero_beyond
 only-zero-past     only_zero_past
 own-bit            own_bit
+part-is            part_is
 part-joined        part_joined
 parted-sound       parted_sound
 portAt             port_at
@@ -182,7 +194,7 @@ rangeIf            range_if
 rangeOf            range_of
 rising-bits        rising_bits
 rising-joined      rising_joined
-rising-withBit     rising_with_bit
+rising-withBit     rising-with_bit
 rising-without     rising_without
 routed-lawful      routed_lawful
 rowBeginning       row_beginning
@@ -213,6 +225,7 @@ take-movedUp       take-moved_up
 tried-all          tried_all
 tried-empty        tried_empty
 tried-filled       tried_filled
+tried-one          tried_one
 tryEntry           try_entry
 weigh-last         weigh_last
 weigh-le           weigh_le

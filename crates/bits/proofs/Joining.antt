@@ -37,16 +37,16 @@ first_with_bit : (b c : ℕ) (cs : List ℕ) → c < b → below_first c cs ≡ 
 first_with_bit b c [] lt u = grind (arith, nat_tests)
 first_with_bit b c (d ∷ ds) lt u = elim (cases_lt b d) [ inl p ↦ rw (lt-ltb b d p) (lt-ltb c b lt) | inr p ↦ rw (le-ltb b d p) u ]
 
-rising_with_bit : (b : ℕ) (l : List ℕ) → rising l ≡ true → member b l ≡ false → rising (with_bit b l) ≡ true
-rising_with_bit b [] r m = refl
-rising_with_bit b (c ∷ cs) r m =
+rising-with_bit : (b : ℕ) (l : List ℕ) → rising l ≡ true → member b l ≡ false → rising (with_bit b l) ≡ true
+rising-with_bit b [] r m = refl
+rising-with_bit b (c ∷ cs) r m =
     let first : below_first c cs ≡ true = grind (arith, nat_tests) in
     let up : rising cs ≡ true = grind (arith, nat_tests) in
     let new : member b cs ≡ false = grind (arith, nat_tests) in
     let ne : b ≡ c → ⊥ = grind (arith, nat_tests) in
     elim (cases_lt b c) [
       | inl p ↦ rw (lt-ltb b c p) (and_from (ltb b c) (rising (c ∷ cs)) (lt-ltb b c p) r)
-      | inr p ↦ rw (le-ltb b c p) (and_from (below_first c (with_bit b cs)) (rising (with_bit b cs)) (first_with_bit b c cs (omega arith) first) (rising_with_bit b cs up new))
+      | inr p ↦ rw (le-ltb b c p) (and_from (below_first c (with_bit b cs)) (rising (with_bit b cs)) (first_with_bit b c cs (omega arith) first) (rising-with_bit b cs up new))
     ]
 
 -- the number that goes on is the mark of a free place at last
@@ -80,7 +80,7 @@ module _ (s : Bits) (b : ℕ) (after : List ℕ) (is : after ≡ handed_on b (pl
       ∙ take-handed_on s.count b (places s) room s.rises (λ k p. omega (arith, s.below k p)) (omega (arith, low))
 
   rising_joined : rising (take (s.count + 1) after) ≡ true
-  rising_joined = ap rising bits_joined ∙ rising_with_bit b (bits_of s) s.rises (grind (arith, nat_tests))
+  rising_joined = ap rising bits_joined ∙ rising-with_bit b (bits_of s) s.rises (grind (arith, nat_tests))
 
   below_joined : (k : ℕ) → k < s.count + 1 → get_or after k 0 < 1024
   below_joined k p = rw is (below_handed_on 1024 s.count b k (places s) (omega arith) room low s.below)

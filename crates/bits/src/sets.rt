@@ -1,5 +1,5 @@
 // What a set of bits tells, and the sets that one more bit or an exchange gives.
-ghost use Rattle.std.specs.Prelude.{◌≡◌, ◌^◌, ◌<◌, ◌≤◌, true, ◌&&◌, ltb, [], length, if◌then◌else◌, nat_lt, slice_index};
+ghost use Rattle.std.specs.Prelude.{◌≡◌, ◌^◌, ◌<◌, ◌≤◌, true, ◌&&◌, [], length, if◌then◌else◌, nat_lt, slice_index};
 ghost use Rattle.bits.specs.Sets.{member, with_bit, without_bit};
 ghost use Rattle.bits.specs.Chosen.{bits_of, places, joins, Gives};
 
@@ -209,7 +209,7 @@ fn power(bits: usize) -> usize
 
 // What a place keeps as `out` leaves the set: its own bit below `out`, and else the next one's.
 fn kept(here: u16, next: u16, out: usize) -> u16
-    ensures { result ≡ (if ltb here out then here else next) }
+    ensures { result ≡ (if nat_lt here out then here else next) }
 {
     if (here as usize) < out { here } else { next }
 }

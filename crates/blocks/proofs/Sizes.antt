@@ -21,19 +21,19 @@ module _ {Header Rule Row : Type 0} (k : Meaning Header Rule Row) where
     abbrev below : ℕ → List ℕ
     below = block_below k rules bits cell
 
-    counted-line : (i : ℕ) → i < length rules → get_or (range_with_len 0 (length rules)) i 0 ≡ i
-    counted-line i lt = omega (arith, get_or-range_with_len 0 (length rules) i 0 lt)
+    counted_line : (i : ℕ) → i < length rules → get_or (range_with_len 0 (length rules)) i 0 ≡ i
+    counted_line i lt = omega (arith, get_or-range_with_len 0 (length rules) i 0 lt)
 
     pub below_more : (i : ℕ) (t : Bool) → i < length rules → keeps i ≡ t → below (i + 1) ≡ below i ++ cond t (i ∷ []) []
     below_more i t lt e =
         filter_more keeps (range_with_len 0 (length rules)) i 0 (omega (arith, length-range_with_len 0 (length rules)))
-        ∙ ap (λ (j : ℕ). below i ++ cond (keeps j) (j ∷ []) []) (counted-line i lt)
+        ∙ ap (λ (j : ℕ). below i ++ cond (keeps j) (j ∷ []) []) (counted_line i lt)
         ∙ ap (λ (b : Bool). below i ++ cond b (i ∷ []) []) e
 
     pub below_size_more : (i : ℕ) (t : Bool) → i < length rules → keeps i ≡ t → length (below (i + 1)) ≡ length (below i) + cond t 1 0
     below_size_more i t lt e =
         length-filter_more keeps (range_with_len 0 (length rules)) i 0 (omega (arith, length-range_with_len 0 (length rules)))
-        ∙ ap (λ (j : ℕ). length (below i) + cond {A = ℕ} (keeps j) 1 0) (counted-line i lt)
+        ∙ ap (λ (j : ℕ). length (below i) + cond {A = ℕ} (keeps j) 1 0) (counted_line i lt)
         ∙ ap (λ (b : Bool). length (below i) + cond {A = ℕ} b 1 0) e
 
     pub below_all : (i : ℕ) → length rules ≤ i → below i ≡ block k rules bits cell

@@ -1,4 +1,5 @@
 -- The bridge kind's law.
+-- Proofs alone, which the code names: nothing here has to be believed.
 use Rattle.std.proofs.Common.{arith}
 use Rattle.kinds.specs.Meaning.{Lawful}
 use Rattle.kinds.proofs.Masks.{mask_agrees}

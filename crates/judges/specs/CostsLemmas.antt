@@ -1,5 +1,6 @@
 -- The costs of a list by its first sizes, and their bounds.
-use Rattle.std.specs.Prelude.{◌≡◌, ℕ, zero, suc, ◌+◌, ◌*◌, ◌<◌, ◌≤◌, max, List, [], ◌∷◌, ◌++◌, length, take, slice_index}
+-- Proofs alone, which the code names: nothing here has to be believed.
+use Rattle.std.specs.Prelude.{◌≡◌, ℕ, zero, suc, ◌+◌, ◌*◌, ◌^◌, ◌<◌, ◌≤◌, max, List, [], ◌∷◌, ◌++◌, length, take, slice_index}
 use Rattle.std.proofs.Common.{ap, ◌∙◌, arith}
 use Rattle.std.proofs.lemmas.List.{take_more}
 use Rattle.judges.specs.Costs.{largest, squares}
@@ -12,6 +13,10 @@ get_or-largest (x ∷ xs) (suc i) lt = omega (arith, get_or-largest xs i (omega 
 pub largest_below : (bound : ℕ) (xs : List ℕ) → 0 < bound → ((k : ℕ) → k < length xs → slice_index xs k < bound) → largest xs < bound
 largest_below bound [] some low = some
 largest_below bound (x ∷ xs) some low = omega (arith, low 0 (omega arith), largest_below bound xs some (λ k lt. low (suc k) (omega arith)))
+
+-- of sizes of 32 bits the largest is far below the bound of a cost
+pub largest_fits : (xs : List ℕ) → ((k : ℕ) → k < length xs → slice_index xs k < 2 ^ 32) → largest xs < 2 ^ 63
+largest_fits xs low = let few = largest_below (2 ^ 32) xs (omega arith) low in omega arith
 
 largest_push : (xs : List ℕ) (x : ℕ) → largest (xs ++ x ∷ []) ≡ max (largest xs) x
 largest_push [] x = omega arith

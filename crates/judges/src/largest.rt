@@ -1,8 +1,7 @@
 // The judge by the largest block.
-ghost use Rattle.std.specs.Prelude.{◌≡◌, ◌^◌, max};
+ghost use Rattle.std.specs.Prelude.{◌≡◌, max};
 ghost use Rattle.judges.specs.Costs.{largest};
-ghost use Rattle.std.proofs.Common.{arith};
-ghost use Rattle.judges.specs.CostsLemmas.{largest_below};
+ghost use Rattle.judges.specs.CostsLemmas.{largest_fits};
 
 use super::judge::Judge;
 
@@ -13,7 +12,7 @@ pub struct Largest;
 impl Judge for Largest {
     ghost cost = { λ _ sizes. largest sizes };
 
-    ghost below = { λ judge sizes low. let e = largest_below (2 ^ 32) sizes (omega arith) low in omega arith };
+    ghost below = { λ _ sizes low. largest_fits sizes low };
 
     fn cost_of(&self, sizes: &[u32]) -> u64 {
         let mut most: u64 = 0;

@@ -1,5 +1,5 @@
 // Frames and bridge rules: limits, bits and refusals.
-use bridge::{Header, Octets, Row, Rule};
+use bridge::{Bridge, Header, Octets, Row, Rule};
 use kinds::Kind;
 use std::test::Fail;
 
@@ -14,19 +14,13 @@ fn reads_frames(rt: HostRuntime) -> Result<(), Fail> {
     assert_eq!(rt; header.octets.middle, 0x0809_0a0b);
     assert_eq!(rt; header.octets.last, 0x0801);
     assert!(rt;
-        <bridge::Bridge as Kind>::bit(&header, 0),
+        Bridge::bit(&header, 0),
         "the first byte's most significant bit"
     );
-    assert!(rt; !<bridge::Bridge as Kind>::bit(&header, 1));
-    assert!(rt;
-        <bridge::Bridge as Kind>::bit(&header, 100),
-        "0x08 of the length or type"
-    );
-    assert!(rt; <bridge::Bridge as Kind>::bit(&header, 111), "the last bit");
-    assert!(rt;
-        !<bridge::Bridge as Kind>::bit(&header, 112),
-        "beyond the width"
-    );
+    assert!(rt; !Bridge::bit(&header, 1));
+    assert!(rt; Bridge::bit(&header, 100), "0x08 of the length or type");
+    assert!(rt; Bridge::bit(&header, 111), "the last bit");
+    assert!(rt; !Bridge::bit(&header, 112), "beyond the width");
     Ok(())
 }
 
@@ -53,7 +47,7 @@ fn refuses_frames_and_rows(rt: HostRuntime) -> Result<(), Fail> {
         Rule::new(&Row {
             value: none,
             mask: last,
-        },)
+        })
         .is_ok()
     );
     let Err(stray) = Rule::new(&Row {

@@ -1,6 +1,6 @@
 // Routed rules: the limits of each field, each refusal with its place, and what port ranges admit.
 use kinds::Kind;
-use routed::{Fault, Row, Rule};
+use routed::{Fault, Routed, Row, Rule};
 use std::test::Fail;
 
 const OPEN: Row = Row {
@@ -121,8 +121,8 @@ fn admitted(low: u16, high: u16) -> Result<[u8; 16], Fault> {
     let rule = Rule::new(&ports(0, 65535, low, high))?;
     let mut values = [9u8; 16];
     for b in 0..16 {
-        let zero = <routed::Routed as Kind>::admits(&rule, 80 + b, false);
-        let one = <routed::Routed as Kind>::admits(&rule, 80 + b, true);
+        let zero = Routed::admits(&rule, 80 + b, false);
+        let one = Routed::admits(&rule, 80 + b, true);
         values[b] = match (zero, one) {
             (true, true) => 2,
             (true, false) => 0,
@@ -155,9 +155,9 @@ fn admits_zero_beyond_the_width(rt: HostRuntime) -> Result<(), Fail> {
     let Ok(rule) = Rule::new(&OPEN) else {
         return Err(Fail::new("refused"));
     };
-    assert_eq!(rt; <routed::Routed as Kind>::width(), 104);
-    assert!(rt; <routed::Routed as Kind>::admits(&rule, 103, true));
-    assert!(rt; <routed::Routed as Kind>::admits(&rule, 104, false));
-    assert!(rt; !<routed::Routed as Kind>::admits(&rule, 104, true));
+    assert_eq!(rt; Routed::width(), 104);
+    assert!(rt; Routed::admits(&rule, 103, true));
+    assert!(rt; Routed::admits(&rule, 104, false));
+    assert!(rt; !Routed::admits(&rule, 104, true));
     Ok(())
 }

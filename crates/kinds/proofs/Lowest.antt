@@ -16,11 +16,11 @@ module _ {Header Rule Row : Type 0} (k : Meaning Header Rule Row) (lines : List 
       true≢false (sym m ∙ ap (λ (o : Option Rule). matches_at k o h) (get_or_past (rules_of k lines) i None (omega (arith, length-map lines (rule_of k)))))
 
   module _ (i : ℕ) (below : (j : ℕ) → j < i → Matches k (rules_of k lines) h j → ⊥) where
-    lowest-some : Matches k (rules_of k lines) h i → Lowest k (rules_of k lines) h (Some i)
-    lowest-some m = (m, λ j n. elim (cases_lt j i) [ inl lt ↦ absurd (below j lt n) | inr le ↦ le ])
+    lowest_some : Matches k (rules_of k lines) h i → Lowest k (rules_of k lines) h (Some i)
+    lowest_some m = (m, λ j n. elim (cases_lt j i) [ inl lt ↦ absurd (below j lt n) | inr le ↦ le ])
 
     pub lowest_here : i < length lines → Matches k (rules_of k lines) h i → Lowest k (rules_of k lines) h (line_after i (length lines))
-    lowest_here lt m = subst (Lowest k (rules_of k lines) h) (cond_below i (length lines) (Some i) None lt) (lowest-some m)
+    lowest_here lt m = subst (Lowest k (rules_of k lines) h) (cond_below i (length lines) (Some i) None lt) (lowest_some m)
 
     pub lowest_none : length lines ≤ i → Lowest k (rules_of k lines) h (line_after (length lines) (length lines))
     lowest_none le =

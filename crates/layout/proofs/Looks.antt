@@ -13,7 +13,7 @@ use Rattle.layout.specs.declared.spoilt.Spoilt.TheVariants.{Bounds}
 use Rattle.layout.proofs.Laid.{start, laid_fits, laid_start, laid_part, laid_bounds}
 use Rattle.layout.proofs.Walk.{answered}
 
-module _ {Header Rule Row : Type 0} (k : Meaning Header Rule Row) (rules : List (Option Rule)) (bits area : List ℕ) (h : Header) (is-laid : area ≡ laid k rules bits (length area)) where
+module _ {Header Rule Row : Type 0} (k : Meaning Header Rule Row) (rules : List (Option Rule)) (bits area : List ℕ) (h : Header) (is_laid : area ≡ laid k rules bits (length area)) where
   pub block_found : block_in (length bits) area (cell_of k bits h) ≡ Ok (block k rules bits (cell_of k bits h))
   block_found =
       let cell = cell_of k bits h in
@@ -22,13 +22,13 @@ module _ {Header Rule Row : Type 0} (k : Meaning Header Rule Row) (rules : List 
       let to = get_or area (cell + 1) 0 in
       let base = 2 ^ length bits + 1 in
       let part : List ℕ = take (to - from) (drop (base + from) area) in
-      let from_is : from ≡ start k rules bits cell = ap (λ xs. get_or xs cell 0) is-laid ∙ laid_start k rules bits (length area) cell (omega arith) in
-      let to_is : to ≡ start k rules bits (cell + 1) = ap (λ xs. get_or xs (cell + 1) 0) is-laid ∙ laid_start k rules bits (length area) (cell + 1) (omega arith) in
-      let bounds = laid_bounds k rules bits (length area) cell (laid_fits k rules bits (length area) (ap length (sym is-laid))) below in
-      let part-is : part ≡ block k rules bits cell = ap (λ xs. take (to - from) (drop (base + from) xs)) is-laid ∙ ap₂ (λ a b. take (b - a) (drop (base + a) (laid k rules bits (length area)))) from_is to_is ∙ laid_part k rules bits (length area) cell below in
+      let from_is : from ≡ start k rules bits cell = ap (λ xs. get_or xs cell 0) is_laid ∙ laid_start k rules bits (length area) cell (omega arith) in
+      let to_is : to ≡ start k rules bits (cell + 1) = ap (λ xs. get_or xs (cell + 1) 0) is_laid ∙ laid_start k rules bits (length area) (cell + 1) (omega arith) in
+      let bounds = laid_bounds k rules bits (length area) cell (laid_fits k rules bits (length area) (ap length (sym is_laid))) below in
+      let part_is : part ≡ block k rules bits cell = ap (λ xs. take (to - from) (drop (base + from) xs)) is_laid ∙ ap₂ (λ a b. take (b - a) (drop (base + a) (laid k rules bits (length area)))) from_is to_is ∙ laid_part k rules bits (length area) cell below in
       cond-false (ltb to from) (Err Bounds) (cond (ltb (length area) (base + to)) (Err Bounds) (Ok part)) (le-ltb to from (omega arith))
       ∙ cond-false (ltb (length area) (base + to)) (Err Bounds) (Ok part) (le-ltb (length area) (base + to) (omega arith))
-      ∙ ap (λ (es : List ℕ). Ok es) part-is
+      ∙ ap (λ (es : List ℕ). Ok es) part_is
 
   pub block_handed : (r : Result (Bor (List ℕ)) Spoilt) → Hands (block_in (length bits) area (cell_of k bits h)) r → Hands (Ok (block k rules bits (cell_of k bits h))) r
   block_handed r hands = subst (λ (x : Result (List ℕ) Spoilt). Hands x r) block_found hands

@@ -42,11 +42,11 @@ module _ {Header Rule Row : Type 0} (k : Meaning Header Rule Row) (rules : List 
 
   -- an entry whose rule does not match, and one whose rule does
   missed : (a n t : ℕ) (entries : List ℕ) (r : Rule) → get_or rules a None ≡ Some r → k.matches r h ≡ false → Walk (a + 1) n (t + 1) entries → Walk a (suc n) t (a ∷ entries)
-  missed a n t entries r is no-match w = record {
+  missed a n t entries r is no_match w = record {
     line = w.line;
     tried = w.tried + 1;
-    answer = ap (λ o. try_entry k o h (Some a, t + 1) (walked k rules h (t + 1) entries)) is ∙ cond-false (k.matches r h) (Ok (Some a, t + 1)) (walked k rules h (t + 1) entries) no-match ∙ w.answer ∙ ap (λ (n : ℕ). Ok (w.line, n)) (omega arith);
-    lowest = lowest_on a n w.line (λ match. both_ways (k.matches r h) no-match (sym (ap (λ o. matches_at k o h) is) ∙ match)) w.lowest;
+    answer = ap (λ o. try_entry k o h (Some a, t + 1) (walked k rules h (t + 1) entries)) is ∙ cond-false (k.matches r h) (Ok (Some a, t + 1)) (walked k rules h (t + 1) entries) no_match ∙ w.answer ∙ ap (λ (n : ℕ). Ok (w.line, n)) (omega arith);
+    lowest = lowest_on a n w.line (λ match. both_ways (k.matches r h) no_match (sym (ap (λ o. matches_at k o h) is) ∙ match)) w.lowest;
     counted = counted_on a entries w.line w.tried w.counted;
     within = omega (arith, w.within);
   }
@@ -66,12 +66,12 @@ module _ {Header Rule Row : Type 0} (k : Meaning Header Rule Row) (rules : List 
     walk : (n a t : ℕ) → Walk a n t (filter p (range_with_len a n))
     walk zero a t = record { line = None; tried = 0; answer = ap (λ (n : ℕ). Ok (None, n)) (omega arith); lowest = λ m l u match. omega arith; counted = refl; within = omega arith }
     walk (suc n) a t = ⊎_elim
-        (λ in-it. rw (cond-true (p a) (a ∷ filter p (range_with_len (a + 1) n)) (filter p (range_with_len (a + 1) n)) in-it) (tried-one (filled a in-it).0 (filled a in-it).1 (walk n (a + 1) (t + 1))))
+        (λ in_it. rw (cond-true (p a) (a ∷ filter p (range_with_len (a + 1) n)) (filter p (range_with_len (a + 1) n)) in_it) (tried_one (filled a in_it).0 (filled a in_it).1 (walk n (a + 1) (t + 1))))
         (λ not_in. rw (cond-false (p a) (a ∷ filter p (range_with_len (a + 1) n)) (filter p (range_with_len (a + 1) n)) not_in) (skipped a n t (filter p (range_with_len (a + 1) n)) (λ match. both_ways (p a) not_in (kept a match)) (walk n (a + 1) t)))
         (cases_Bool (p a))
       where
-        tried-one : (r : Rule) → get_or rules a None ≡ Some r → Walk (a + 1) n (t + 1) (filter p (range_with_len (a + 1) n)) → Walk a (suc n) t (a ∷ filter p (range_with_len (a + 1) n))
-        tried-one r is w = ⊎_elim (λ match. hit a n t (filter p (range_with_len (a + 1) n)) r is match) (λ no-match. missed a n t (filter p (range_with_len (a + 1) n)) r is no-match w) (cases_Bool (k.matches r h))
+        tried_one : (r : Rule) → get_or rules a None ≡ Some r → Walk (a + 1) n (t + 1) (filter p (range_with_len (a + 1) n)) → Walk a (suc n) t (a ∷ filter p (range_with_len (a + 1) n))
+        tried_one r is w = ⊎_elim (λ match. hit a n t (filter p (range_with_len (a + 1) n)) r is match) (λ no_match. missed a n t (filter p (range_with_len (a + 1) n)) r is no_match w) (cases_Bool (k.matches r h))
 
 module _ {Header Rule Row : Type 0} (k : Meaning Header Rule Row) (law : Lawful k) (rules : List (Option Rule)) (bits : List ℕ) (h : Header) where
   abbrev cell : ℕ

@@ -57,7 +57,7 @@ block_written k bits lines cell at done i old area le count entries front =
 -- one block more, and all of them: `area` was `old` before, and holds the blocks below a cell from `at` on
 module _ {Header Rule Row : Type 0} (k : Meaning Header Rule Row) (rules : List (Option Rule)) (bits : List ℕ) (at next c : ℕ) (old area : List ℕ) (end : next ≡ at + sum (take c (sizes k rules bits))) (so_far : take next area ≡ take at old ++ flat_map (λ es. es) (take c (blocks k rules bits))) where
   pub blocks_more : c < 2 ^ length bits → (next' : ℕ) (area' : List ℕ) → next' ≡ next + length (block k rules bits c) → take next' area' ≡ take next area ++ block k rules bits c → (next' ≡ at + sum (take (c + 1) (sizes k rules bits))) × (take next' area' ≡ take at old ++ flat_map (λ es. es) (take (c + 1) (blocks k rules bits)))
-  blocks_more lt next' area' next-is written =
+  blocks_more lt next' area' next_is written =
       let bs = blocks k rules bits in (
         omega (arith, start_next k rules bits c lt),
         written
@@ -75,7 +75,7 @@ module _ {Header Rule Row : Type 0} (k : Meaning Header Rule Row) (rules : List 
 
 -- starts, then all blocks, then zeros to the end: `a`, `b` and `c` are the area after each of them
 pub all_written : {Header Rule Row : Type 0} (k : Meaning Header Rule Row) (rules : List (Option Rule)) (bits ss a b c : List ℕ) (base end room : ℕ) → ss ≡ sizes k rules bits → base ≡ length ss + 1 → take base a ≡ starts_from 0 ss → end ≡ base + sum (sizes k rules bits) → take end b ≡ take base a ++ flat_map (λ es. es) (blocks k rules bits) → length b ≡ room → c ≡ take end b ++ replicate (length b - end) 0 → c ≡ laid k rules bits room
-all_written k rules bits ss a b c base end room counted base-is starts end_is entries long zeros =
+all_written k rules bits ss a b c base end room counted base_is starts end_is entries long zeros =
     let behind : length b - end ≡ room - table_size k rules bits = omega (arith, ap length counted, length-sizes k rules bits) in
     zeros
     ∙ ap (λ (n : ℕ). take end b ++ replicate n 0) behind

@@ -6,7 +6,7 @@
 --     Tried         what the number tried means: up to the answered line in its block, or the whole block
 --     FindsLowest   what a look-up owes in a laid area
 -- Assumes nothing.
-use Rattle.std.specs.Prelude.{◌≡◌, ℕ, ◌+◌, ◌-◌, ◌^◌, ◌≤◌, false, cond, List, [], ◌∷◌, ◌++◌, length, get_or, take, drop, Some, None, Ok, Err, Option, Result, nat_lt, slice_index_or}
+use Rattle.std.specs.Prelude.{◌≡◌, ℕ, ◌+◌, ◌-◌, ◌^◌, ◌≤◌, false, cond, List, [], ◌∷◌, ◌++◌, length, take, drop, Some, None, Ok, Err, Option, Result, nat_lt, slice_index, slice_index_or}
 use Rattle.std.specs.Borrow.{Bor}
 use Rattle.std.specs.List.{AllByRecursion}
 use Rattle.kinds.specs.Meaning.{Meaning}
@@ -21,8 +21,8 @@ use Rattle.layout.specs.declared.spoilt.Spoilt.TheVariants.{Bounds, Entry}
 -- by the number of chosen bits, the area and the cell
 abbrev pub block_in : ℕ → List ℕ → ℕ → Result (List ℕ) Spoilt
 block_in bits area cell =
-    let from = get_or area cell 0 in
-    let to = get_or area (cell + 1) 0 in
+    let from = slice_index area cell in
+    let to = slice_index area (cell + 1) in
     let base = 2 ^ bits + 1 in
     checked ((nat_lt to from, Bounds) ∷ (nat_lt (length area) (base + to), Bounds) ∷ []) (take (to - from) (drop (base + from) area))
 

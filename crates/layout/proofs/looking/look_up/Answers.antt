@@ -16,5 +16,5 @@ returns g c =
     record {
       answer = c.try_block.ensures;
       walk = looks k rules h (block_in (length bits) c.args.area.now (cell_of k bits h)) c.try_block.result c.try_block.ensures;
-      facts = λ is-laid. finds_lowest k rules bits c.args.area.now h is-laid g.met.K.Kind.lawful c.try_block.result c.try_block.ensures;
+      facts = λ is_laid. finds_lowest k rules bits c.args.area.now h is_laid g.met.K.Kind.lawful c.try_block.result c.try_block.ensures;
     }
