@@ -4,25 +4,22 @@ ghost use Rattle.bridge.specs.Faults.{code_of};
 
 use kinds::FaultCode;
 
-#[derive(Clone, Copy)]
+// Each by the number of its refusal.
+#[derive(Clone, Copy, Debug, PartialEq, Eq)]
 pub enum Fault {
     // The frame has under fourteen bytes.
-    Short,
+    Short = 1,
     // A value bit lies outside the mask.
-    StrayBit,
+    StrayBit = 6,
 }
 
-impl Fault {
-    // Number, layer and place.
-    pub fn code(&self) -> FaultCode
-        ensures { result ≡ code_of self.now }
-    {
-        let number = match self {
-            Fault::Short => 1,
-            Fault::StrayBit => 6,
-        };
+// Number, layer and place.
+impl From<Fault> for FaultCode {
+    ghost from_gives = { λ fault code. code ≡ code_of fault };
+
+    fn from(fault: Fault) -> FaultCode {
         FaultCode {
-            number,
+            number: fault as u16,
             layer: 1,
             place: 0,
         }

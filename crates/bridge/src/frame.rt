@@ -6,7 +6,7 @@ use super::fault::Fault;
 use super::octets::Octets;
 
 // The first fourteen bytes of a frame: destination, source, and length or type.
-#[derive(Clone, Copy)]
+#[derive(Clone, Copy, Debug, PartialEq, Eq)]
 pub struct Header {
     pub octets: Octets,
 }

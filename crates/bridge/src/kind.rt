@@ -28,10 +28,7 @@ impl Kind for Bridge {
     }
 
     fn matches(rule: &Rule, header: &Header) -> bool {
-        let octets = header.octets;
-        octets.first & rule.mask.first == rule.value.first
-            && octets.middle & rule.mask.middle == rule.value.middle
-            && octets.last & rule.mask.last == rule.value.last
+        header.octets & rule.mask == rule.value
     }
 
     fn admits(rule: &Rule, b: usize, value: bool) -> bool {
@@ -43,7 +40,7 @@ impl Kind for Bridge {
     }
 
     fn rule(row: &Row) -> Option<Rule> {
-        Rule::new(row).ok()
+        Rule::try_from(*row).ok()
     }
 
     fn row(rule: &Rule) -> Row {

@@ -1,7 +1,6 @@
 // The bridge kind: a header is the first fourteen bytes of a frame, and a rule is fourteen value bytes under a mask.
 #![tactic(auto)]
 
-mod checks;
 mod fault;
 mod frame;
 mod kind;

@@ -1,9 +1,12 @@
 // Fourteen bytes and their bits.
 ghost use Rattle.std.specs.Prelude.{◌≡◌};
 ghost use Rattle.bridge.specs.Bridge.{octets_bit};
+ghost use Rattle.bridge.specs.Inside.{octets_and};
+
+use std::ops::BitAnd;
 
 // Fourteen bytes in network order as single numbers: the first eight, the next four, the last two.
-#[derive(Clone, Copy)]
+#[derive(Clone, Copy, Debug, PartialEq, Eq)]
 pub struct Octets {
     pub first: u64,
     pub middle: u32,
@@ -20,6 +23,21 @@ impl Octets {
             64..=95 => (self.middle >> (95 - b)) % 2 == 1,
             96..=111 => (self.last >> (111 - b)) % 2 == 1,
             _ => false,
+        }
+    }
+}
+
+// The bytes with the bits outside a mask set to 0.
+impl BitAnd for Octets {
+    type Output = Octets;
+
+    ghost bitand_gives = { λ octets mask result. result ≡ octets_and octets mask };
+
+    fn bitand(self, mask: Octets) -> Octets {
+        Octets {
+            first: self.first & mask.first,
+            middle: self.middle & mask.middle,
+            last: self.last & mask.last,
         }
     }
 }

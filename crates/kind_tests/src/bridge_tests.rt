@@ -1,4 +1,5 @@
 // Frames and bridge rules: limits, bits and refusals.
+use super::refusals::{refusal, refused};
 use bridge::{Bridge, Header, Octets, Row, Rule};
 use kinds::Kind;
 use std::test::Fail;
@@ -25,14 +26,13 @@ fn reads_frames(rt: HostRuntime) -> Result<(), Fail> {
 }
 
 #[test]
-fn refuses_frames_and_rows(rt: HostRuntime) -> Result<(), Fail> {
+fn refuses_frames_and_rows(rt: HostRuntime) {
     assert!(rt; Header::read(&FRAME[0..14]).is_ok(), "14 bytes");
-    let Err(short) = Header::read(&FRAME[0..13]) else {
-        return Err(Fail::new("13 bytes are read"));
-    };
-    assert_eq!(rt; short.code().number, 1);
-    assert_eq!(rt; short.code().layer, 1);
-    assert_eq!(rt; short.code().place, 0);
+    assert_eq!(rt;
+        refusal(Header::read(&FRAME[0..13])),
+        refused(1, 0),
+        "13 bytes"
+    );
     let none = Octets {
         first: 0,
         middle: 0,
@@ -43,20 +43,19 @@ fn refuses_frames_and_rows(rt: HostRuntime) -> Result<(), Fail> {
         middle: 0,
         last: 1,
     };
-    assert!(rt;
-        Rule::new(&Row {
+    assert_eq!(rt;
+        refusal(Rule::try_from(Row {
             value: none,
-            mask: last,
-        })
-        .is_ok()
+            mask: last
+        })),
+        None
     );
-    let Err(stray) = Rule::new(&Row {
-        value: last,
-        mask: none,
-    }) else {
-        return Err(Fail::new("a value bit outside the mask passes"));
-    };
-    assert_eq!(rt; stray.code().number, 6);
-    assert_eq!(rt; stray.code().place, 0);
-    Ok(())
+    assert_eq!(rt;
+        refusal(Rule::try_from(Row {
+            value: last,
+            mask: none
+        })),
+        refused(6, 0),
+        "a value bit outside the mask"
+    );
 }

@@ -6,4 +6,6 @@ mod bridge_tests;
 #[cfg(test)]
 mod packet_tests;
 #[cfg(test)]
+mod refusals;
+#[cfg(test)]
 mod rule_tests;

@@ -1,4 +1,5 @@
 // Packets of RFC 791: what is read, and each refusal.
+use super::refusals::{refusal, refused};
 use routed::Header;
 use std::test::Fail;
 
@@ -8,17 +9,6 @@ fn packet(first: u8, protocol: u8) -> [u8; 28] {
         first, 0, 0, 28, 0, 0, 0, 0, 64, protocol, 0, 0, 10, 0, 0, 1, 10, 0, 0, 2, 0x1f, 0x90,
         0x00, 0x35, 0x12, 0x34, 0xab, 0xcd,
     ]
-}
-
-// The number and the place of the refusal, or zeros where the packet is read.
-fn refusal(packet: &[u8]) -> (u16, usize) {
-    match Header::read(packet) {
-        Ok(_) => (0, 0),
-        Err(fault) => {
-            let code = fault.code();
-            (code.number, code.place)
-        }
-    }
 }
 
 fn ports(packet: &[u8]) -> Option<(u16, u16)> {
@@ -55,24 +45,40 @@ fn places_ports(rt: HostRuntime) {
 #[test]
 fn refuses_packets(rt: HostRuntime) {
     let udp = packet(0x45, 17);
-    assert_eq!(rt; refusal(&udp[0..24]), (0, 0), "24 bytes");
-    assert_eq!(rt; refusal(&udp[0..23]), (4, 0), "23 bytes");
+    assert_eq!(rt; refusal(Header::read(&udp[0..24])), None, "24 bytes");
     assert_eq!(rt;
-        refusal(&packet(0x45, 1)[0..20]),
-        (0, 0),
+        refusal(Header::read(&udp[0..23])),
+        refused(4, 0),
+        "23 bytes"
+    );
+    assert_eq!(rt;
+        refusal(Header::read(&packet(0x45, 1)[0..20])),
+        None,
         "ICMP needs no ports"
     );
-    assert_eq!(rt; refusal(&udp[0..19]), (1, 0), "19 bytes");
-    assert_eq!(rt; refusal(&packet(0x65, 17)), (2, 0), "version 6");
-    assert_eq!(rt; refusal(&packet(0x44, 17)), (3, 0), "four words");
     assert_eq!(rt;
-        refusal(&packet(0x48, 17)),
-        (3, 0),
+        refusal(Header::read(&udp[0..19])),
+        refused(1, 0),
+        "19 bytes"
+    );
+    assert_eq!(rt;
+        refusal(Header::read(&packet(0x65, 17))),
+        refused(2, 0),
+        "version 6"
+    );
+    assert_eq!(rt;
+        refusal(Header::read(&packet(0x44, 17))),
+        refused(3, 0),
+        "four words"
+    );
+    assert_eq!(rt;
+        refusal(Header::read(&packet(0x48, 17))),
+        refused(3, 0),
         "a header past the last byte"
     );
     assert_eq!(rt;
-        refusal(&packet(0x64, 17)),
-        (2, 0),
+        refusal(Header::read(&packet(0x64, 17))),
+        refused(2, 0),
         "the version comes before the header length"
     );
 }

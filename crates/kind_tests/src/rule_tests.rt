@@ -1,6 +1,8 @@
 // Routed rules: the limits of each field, each refusal with its place, and what port ranges admit.
+use super::refusals::{refusal, refused};
 use kinds::Kind;
 use routed::{Fault, Routed, Row, Rule};
+use std::array;
 use std::test::Fail;
 
 const OPEN: Row = Row {
@@ -15,17 +17,6 @@ const OPEN: Row = Row {
     protocol: 0,
     mask: 0,
 };
-
-// Number, layer and place of a refusal, or zeros where the row holds a rule.
-fn refusal(row: &Row) -> (u16, u16, usize) {
-    match Rule::new(row) {
-        Ok(_) => (0, 0, 0),
-        Err(fault) => {
-            let code = fault.code();
-            (code.number, code.layer, code.place)
-        }
-    }
-}
 
 fn prefixes(source: u32, source_length: u8, destination: u32, destination_length: u8) -> Row {
     Row {
@@ -58,33 +49,33 @@ fn protocol(protocol: u8, mask: u8) -> Row {
 #[test]
 fn refuses_prefixes(rt: HostRuntime) {
     assert_eq!(rt;
-        refusal(&prefixes(0xc0a8_0701, 32, 0, 0)),
-        (0, 0, 0),
+        refusal(Rule::try_from(prefixes(0xc0a8_0701, 32, 0, 0))),
+        None,
         "length 32"
     );
     assert_eq!(rt;
-        refusal(&prefixes(0xc0a8_0701, 33, 0, 0)),
-        (5, 1, 1),
+        refusal(Rule::try_from(prefixes(0xc0a8_0701, 33, 0, 0))),
+        refused(5, 1),
         "length 33"
     );
     assert_eq!(rt;
-        refusal(&prefixes(0xc0a8_0701, 31, 0, 0)),
-        (6, 1, 1),
+        refusal(Rule::try_from(prefixes(0xc0a8_0701, 31, 0, 0))),
+        refused(6, 1),
         "a one past the source prefix"
     );
     assert_eq!(rt;
-        refusal(&prefixes(0, 0, 0, 255)),
-        (5, 1, 2),
+        refusal(Rule::try_from(prefixes(0, 0, 0, 255))),
+        refused(5, 2),
         "destination length 255"
     );
     assert_eq!(rt;
-        refusal(&prefixes(0, 0, 1, 0)),
-        (6, 1, 2),
+        refusal(Rule::try_from(prefixes(0, 0, 1, 0))),
+        refused(6, 2),
         "a one past an empty destination prefix"
     );
     assert_eq!(rt;
-        refusal(&prefixes(1, 0, 0, 33)),
-        (6, 1, 1),
+        refusal(Rule::try_from(prefixes(1, 0, 0, 33))),
+        refused(6, 1),
         "the source comes before the destination"
     );
 }
@@ -92,45 +83,55 @@ fn refuses_prefixes(rt: HostRuntime) {
 #[test]
 fn refuses_ranges_and_protocols(rt: HostRuntime) {
     assert_eq!(rt;
-        refusal(&ports(2, 1, 0, 0)),
-        (7, 1, 3),
+        refusal(Rule::try_from(ports(2, 1, 0, 0))),
+        refused(7, 3),
         "source ports backwards"
     );
     assert_eq!(rt;
-        refusal(&ports(0, 0, 65535, 65534)),
-        (7, 1, 4),
+        refusal(Rule::try_from(ports(0, 0, 65535, 65534))),
+        refused(7, 4),
         "destination ports backwards"
     );
-    assert_eq!(rt; refusal(&ports(5, 5, 5, 5)), (0, 0, 0), "one port");
-    assert_eq!(rt; refusal(&protocol(6, 255)), (0, 0, 0), "one protocol");
     assert_eq!(rt;
-        refusal(&protocol(6, 0)),
-        (6, 1, 5),
+        refusal(Rule::try_from(ports(5, 5, 5, 5))),
+        None,
+        "one port"
+    );
+    assert_eq!(rt;
+        refusal(Rule::try_from(protocol(6, 255))),
+        None,
+        "one protocol"
+    );
+    assert_eq!(rt;
+        refusal(Rule::try_from(protocol(6, 0))),
+        refused(6, 5),
         "a protocol bit outside the mask"
     );
-    assert_eq!(rt; refusal(&protocol(6, 254)), (8, 1, 5), "a mask in part");
     assert_eq!(rt;
-        refusal(&protocol(1, 254)),
-        (8, 1, 5),
+        refusal(Rule::try_from(protocol(6, 254))),
+        refused(8, 5),
+        "a mask in part"
+    );
+    assert_eq!(rt;
+        refusal(Rule::try_from(protocol(1, 254))),
+        refused(8, 5),
         "the mask comes before the bit outside it"
     );
 }
 
 // At each of the sixteen bits of the destination ports, the first most significant: 0 or 1 alone, or 2 for both.
 fn admitted(low: u16, high: u16) -> Result<[u8; 16], Fault> {
-    let rule = Rule::new(&ports(0, 65535, low, high))?;
-    let mut values = [9u8; 16];
-    for b in 0..16 {
+    let rule = Rule::try_from(ports(0, 65535, low, high))?;
+    Ok(array::from_fn(|b| {
         let zero = Routed::admits(&rule, 80 + b, false);
         let one = Routed::admits(&rule, 80 + b, true);
-        values[b] = match (zero, one) {
+        match (zero, one) {
             (true, true) => 2,
             (true, false) => 0,
             (false, true) => 1,
             (false, false) => 3,
-        };
-    }
-    Ok(values)
+        }
+    }))
 }
 
 #[test]
@@ -152,7 +153,7 @@ fn admits_by_range(rt: HostRuntime) -> Result<(), Fail> {
 
 #[test]
 fn admits_zero_beyond_the_width(rt: HostRuntime) -> Result<(), Fail> {
-    let Ok(rule) = Rule::new(&OPEN) else {
+    let Ok(rule) = Rule::try_from(OPEN) else {
         return Err(Fail::new("refused"));
     };
     assert_eq!(rt; Routed::width(), 104);

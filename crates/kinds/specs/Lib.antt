@@ -4,3 +4,4 @@ pub mod Bits
 pub mod Fields
 pub mod Bytes
 pub mod Checks
+pub mod Codes

@@ -3,7 +3,7 @@
 --     Matches   a filled line whose rule matches a header
 --     Lowest    the lowest such line, or none exactly when there is none
 -- Assumes nothing.
-use Rattle.std.specs.Prelude.{◌≡◌, ℕ, ◌+◌, ◌≤◌, Bool, true, false, cond, List, map, Some, None, Option, nat_lt, slice_index_or}
+use Rattle.std.specs.Prelude.{◌≡◌, ℕ, ◌+◌, ◌≤◌, Bool, true, false, cond, List, map, Some, None, Option, slice_index_or}
 use Rattle.kinds.specs.Meaning.{Meaning}
 use Rattle.kinds.specs.declared.line.Line.{Line}
 
@@ -26,10 +26,6 @@ module _ {Header Rule Row : Type 0} (k : Meaning Header Rule Row) where
   abbrev pub Lowest : List (Option Rule) → Header → Option ℕ → Type 0
   Lowest rules h None = (line : ℕ) → Matches rules h line → ⊥
   Lowest rules h (Some lowest) = Matches rules h lowest × ((line : ℕ) → Matches rules h line → lowest ≤ line)
-
--- the line behind those that a search has passed, if any is left
-abbrev pub line_after : ℕ → ℕ → Option ℕ
-line_after passed count = cond (nat_lt passed count) (Some passed) None
 
 -- how many lines a search from the first one on has compared when it ends with this answer
 abbrev pub compared_for : Option ℕ → ℕ → ℕ

@@ -1,5 +1,5 @@
 // One line of a book: filled if it is marked and its row holds a rule, else empty.
-#[derive(Clone, Copy)]
+#[derive(Clone, Copy, Debug, PartialEq, Eq)]
 pub struct Line<R> {
     pub mark: bool,
     pub row: R,

@@ -1,6 +1,6 @@
 // Lines by their rules, and the plain search through all of them.
-ghost use Rattle.std.specs.Prelude.{◌≡◌, ◌≤◌, length, Some};
-ghost use Rattle.kinds.specs.Lines.{rule_of, rules_of, matches_at, Lowest, line_after, compared_for};
+ghost use Rattle.std.specs.Prelude.{◌≡◌, length, position, Some};
+ghost use Rattle.kinds.specs.Lines.{rule_of, rules_of, matches_at, Lowest, compared_for};
 
 use super::kind::Kind;
 use super::line::Line;
@@ -32,17 +32,13 @@ fn line_matches<K: Kind>(line: &Line<K::Row>, header: &K::Header) -> bool
     }
 }
 
-// How many lines stand before the lowest filled line whose rule matches, or all of them where there is none.
-fn passed<K: Kind>(lines: &[Line<K::Row>], header: &K::Header) -> usize
-    ensures answer { Lowest K.meaning (rules_of K.meaning lines.now) header.now (line_after result (length lines.now)) }
-    ensures bound { result ≤ length lines.now }
+// The first line that is filled and whose rule matches, or none.
+fn first<K: Kind>(lines: &[Line<K::Row>], header: &K::Header) -> Option<usize>
+    ensures { result ≡ position (λ line. matches_at K.meaning (rule_of K.meaning line) header.now) lines.now }
 {
-    for (i, line) in lines.iter().enumerate() {
-        if line_matches::<K>(line, header) {
-            return i;
-        }
-    }
-    lines.len()
+    lines
+        .iter()
+        .position(|line| line_matches::<K>(line, header))
 }
 
 // The lowest filled line whose rule matches, or none, and how many lines were compared.
@@ -50,10 +46,6 @@ pub fn first_match<K: Kind>(lines: &[Line<K::Row>], header: &K::Header) -> (Opti
     ensures answer { Lowest K.meaning (rules_of K.meaning lines.now) header.now result.0 }
     ensures compared { result.1 ≡ compared_for result.0 (length lines.now) }
 {
-    let before = passed::<K>(lines, header);
-    if before < lines.len() {
-        (Some(before), before + 1)
-    } else {
-        (None, before)
-    }
+    let line = first::<K>(lines, header);
+    (line, line.map_or(lines.len(), |line| line + 1))
 }

@@ -8,9 +8,9 @@ use lib.Bits.{bit_and}
 use Rattle.routed.specs.Prefixes.{prefix_if, prefix_of}
 use Rattle.routed.specs.Ranges.{range_if, range_of}
 use Rattle.routed.specs.Protocols.{whole, protocol_if, protocol_of}
-use Rattle.routed.specs.declared.rule.Prefix.{Prefix}
-use Rattle.routed.specs.declared.rule.PortRange.{PortRange}
-use Rattle.routed.specs.declared.rule.ProtocolMatch.{ProtocolMatch}
+use Rattle.routed.specs.declared.prefix.Prefix.{Prefix}
+use Rattle.routed.specs.declared.ports.PortRange.{PortRange}
+use Rattle.routed.specs.declared.protocol.ProtocolMatch.{ProtocolMatch}
 use Rattle.routed.specs.declared.rule.Rule.{Rule}
 use Rattle.routed.specs.declared.rule.Row.{Row}
 use Rattle.routed.specs.Routed.{rule_in}

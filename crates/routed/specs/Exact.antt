@@ -11,7 +11,7 @@ use Rattle.std.proofs.lemmas.Bool.{and_parts, and_from, leb-true, le-leb, true�
 use Rattle.std.proofs.lemmas.Bool.Decides.{nat_tests, Decides-and, Decides-eqb, Decides-below_or, Decides-like, same_from_decides}
 use Rattle.kinds.specs.Bits.{digit, bit_of}
 use Rattle.routed.specs.Ranges.{in_range, SomePort, some_below, range_admits, ends_admit}
-use Rattle.routed.specs.declared.rule.PortRange.{PortRange}
+use Rattle.routed.specs.declared.ports.PortRange.{PortRange}
 
 decides_true : (t : Bool) → Decides t (t ≡ true)
 decides_true t = ((λ e. e), (λ e. e))

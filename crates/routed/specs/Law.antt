@@ -11,8 +11,8 @@ use Rattle.kinds.proofs.Rows.{fields_lawful}
 use Rattle.routed.specs.Prefixes.{in_prefix, prefix_admits}
 use Rattle.routed.specs.Ranges.{in_range, range_admits}
 use Rattle.routed.specs.Routed.{routed, fields}
-use Rattle.routed.specs.declared.rule.Prefix.{Prefix}
-use Rattle.routed.specs.declared.rule.PortRange.{PortRange}
+use Rattle.routed.specs.declared.prefix.Prefix.{Prefix}
+use Rattle.routed.specs.declared.ports.PortRange.{PortRange}
 use Rattle.routed.specs.Exact.{range_decides}
 
 -- bit b lies in the first `length` bits

@@ -9,7 +9,7 @@ use Rattle.std.proofs.Math.Decide.{dec_le, ℕ_discrete}
 use Rattle.kinds.specs.Bits.{bit_of}
 use Rattle.routed.specs.declared.fault.Defect.{Defect}
 use Rattle.routed.specs.declared.fault.Defect.TheVariants.{PrefixLength, StrayBit}
-use Rattle.routed.specs.declared.rule.Prefix.{Prefix}
+use Rattle.routed.specs.declared.prefix.Prefix.{Prefix}
 
 -- the prefix bits agree
 abbrev pub in_prefix : Prefix → ℕ → Bool

@@ -9,7 +9,7 @@ use Rattle.std.proofs.Math.Decide.{ℕ_discrete}
 use Rattle.kinds.specs.Bits.{mask_matches, mask_admits}
 use Rattle.routed.specs.declared.fault.Defect.{Defect}
 use Rattle.routed.specs.declared.fault.Defect.TheVariants.{ProtocolMask, StrayBit}
-use Rattle.routed.specs.declared.rule.ProtocolMatch.{ProtocolMatch}
+use Rattle.routed.specs.declared.protocol.ProtocolMatch.{ProtocolMatch}
 
 abbrev pub is_protocol : ProtocolMatch → ℕ → Bool
 is_protocol p protocol = mask_matches p.value p.mask protocol

@@ -11,7 +11,7 @@ use Rattle.std.proofs.Math.Decide.{dec_le}
 use Rattle.kinds.specs.Bits.{bit_of}
 use Rattle.routed.specs.declared.fault.Defect.{Defect}
 use Rattle.routed.specs.declared.fault.Defect.TheVariants.{RangeOrder}
-use Rattle.routed.specs.declared.rule.PortRange.{PortRange}
+use Rattle.routed.specs.declared.ports.PortRange.{PortRange}
 
 abbrev pub in_range : PortRange → ℕ → Bool
 in_range r port = nat_le r.low port && nat_le port r.high

@@ -1,33 +1,33 @@
 // What reading a packet or a row can refuse.
 ghost use Rattle.std.specs.Prelude.{◌≡◌};
-ghost use Rattle.routed.specs.Faults.{code_of, field_place, defect_number};
+ghost use Rattle.routed.specs.Faults.{code_of};
 
 use kinds::FaultCode;
 
-// A field of a rule.
-#[derive(Clone, Copy)]
+// A field of a rule, by its number in bit order.
+#[derive(Clone, Copy, Debug, PartialEq, Eq)]
 pub enum RuleField {
-    Source,
-    Destination,
-    SourcePorts,
-    DestinationPorts,
-    Protocol,
+    Source = 1,
+    Destination = 2,
+    SourcePorts = 3,
+    DestinationPorts = 4,
+    Protocol = 5,
 }
 
-// What is wrong with the numbers of one field.
-#[derive(Clone, Copy)]
+// What is wrong with the numbers of one field, by the number of the refusal.
+#[derive(Clone, Copy, Debug, PartialEq, Eq)]
 pub enum Defect {
     // A prefix length above 32.
-    PrefixLength,
+    PrefixLength = 5,
     // A one past the prefix, or a value bit outside the mask.
-    StrayBit,
+    StrayBit = 6,
     // A port range whose low end lies above its high end.
-    RangeOrder,
+    RangeOrder = 7,
     // A protocol mask that is neither 0 nor 255.
-    ProtocolMask,
+    ProtocolMask = 8,
 }
 
-#[derive(Clone, Copy)]
+#[derive(Clone, Copy, Debug, PartialEq, Eq)]
 pub enum Fault {
     // The packet has under 20 bytes.
     Short,
@@ -41,46 +41,17 @@ pub enum Fault {
     NoRule(RuleField, Defect),
 }
 
-impl RuleField {
-    // The field's number, from 1 on in bit order.
-    fn place(&self) -> usize
-        ensures { result ≡ field_place self.now }
-    {
-        match self {
-            RuleField::Source => 1,
-            RuleField::Destination => 2,
-            RuleField::SourcePorts => 3,
-            RuleField::DestinationPorts => 4,
-            RuleField::Protocol => 5,
-        }
-    }
-}
+// Number, layer and place.
+impl From<Fault> for FaultCode {
+    ghost from_gives = { λ fault code. code ≡ code_of fault };
 
-impl Defect {
-    // The number of the refusal.
-    fn number(&self) -> u16
-        ensures { result ≡ defect_number self.now }
-    {
-        match self {
-            Defect::PrefixLength => 5,
-            Defect::StrayBit => 6,
-            Defect::RangeOrder => 7,
-            Defect::ProtocolMask => 8,
-        }
-    }
-}
-
-impl Fault {
-    // Number, layer and place.
-    pub fn code(&self) -> FaultCode
-        ensures { result ≡ code_of self.now }
-    {
-        let (number, place) = match self {
+    fn from(fault: Fault) -> FaultCode {
+        let (number, place) = match fault {
             Fault::Short => (1, 0),
             Fault::Version => (2, 0),
             Fault::HeaderLength => (3, 0),
             Fault::NoPorts => (4, 0),
-            Fault::NoRule(field, defect) => (defect.number(), field.place()),
+            Fault::NoRule(field, defect) => (defect as u16, field as usize),
         };
         FaultCode {
             number,

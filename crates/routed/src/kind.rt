@@ -60,7 +60,7 @@ impl Kind for Routed {
     }
 
     fn rule(row: &Row) -> Option<Rule> {
-        Rule::new(row).ok()
+        Rule::try_from(*row).ok()
     }
 
     fn row(rule: &Rule) -> Row {

@@ -1,7 +1,6 @@
 // The routed kind: IPv4 packets by addresses, ports and protocol.
 #![tactic(auto)]
 
-mod checks;
 mod fault;
 mod kind;
 mod packet;
@@ -13,4 +12,7 @@ mod rule;
 pub use fault::{Defect, Fault, RuleField};
 pub use kind::Routed;
 pub use packet::Header;
-pub use rule::{PortRange, Prefix, ProtocolMatch, Row, Rule};
+pub use ports::PortRange;
+pub use prefix::Prefix;
+pub use protocol::ProtocolMatch;
+pub use rule::{Row, Rule};

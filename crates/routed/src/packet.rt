@@ -1,5 +1,5 @@
 // A packet's header by RFC 791, with the ports of RFC 9293 and RFC 768, and reading it.
-ghost use Rattle.std.specs.Prelude.{◌≡◌, ◌+◌, ◌≤◌, length};
+ghost use Rattle.std.specs.Prelude.{◌≡◌, length, if◌then◌else◌, nat_lt, Some, None};
 ghost use Rattle.kinds.specs.Bytes.{big_endian};
 ghost use Rattle.routed.specs.Packets.{header_of, has_ports};
 
@@ -10,7 +10,7 @@ const TCP: u8 = 6;
 const UDP: u8 = 17;
 
 // What rules are compared with.
-#[derive(Clone, Copy)]
+#[derive(Clone, Copy, Debug, PartialEq, Eq)]
 pub struct Header {
     pub source: u32,
     pub destination: u32,
@@ -24,29 +24,50 @@ impl Header {
     pub fn read(packet: &[u8]) -> Result<Header, Fault>
         ensures { result ≡ header_of packet.now }
     {
-        if packet.len() < 20 {
+        let [
+            first,
+            _,
+            _,
+            _,
+            _,
+            _,
+            _,
+            _,
+            _,
+            protocol,
+            _,
+            _,
+            a,
+            b,
+            c,
+            d,
+            e,
+            f,
+            g,
+            h,
+            ..
+        ] = packet
+        else {
             return Err(Fault::Short);
-        }
-        if packet[0] / 16 != 4 {
+        };
+        if *first / 16 != 4 {
             return Err(Fault::Version);
         }
-        let end = 4 * (packet[0] % 16) as usize;
+        let end = 4 * usize::from(*first % 16);
         if end < 20 || end > packet.len() {
             return Err(Fault::HeaderLength);
         }
-        let protocol = packet[9];
-        let with_ports = has_ports(protocol);
-        if with_ports && packet.len() - end < 4 {
-            return Err(Fault::NoPorts);
-        }
-        let source_port = if with_ports { port(packet, end) } else { 0 };
-        let destination_port = if with_ports { port(packet, end + 2) } else { 0 };
+        let (source_port, destination_port) = if has_ports(*protocol) {
+            ports(&packet[end..]).ok_or(Fault::NoPorts)?
+        } else {
+            (0, 0)
+        };
         Ok(Header {
-            source: address(packet, 12),
-            destination: address(packet, 16),
+            source: u32::from_be_bytes([*a, *b, *c, *d]),
+            destination: u32::from_be_bytes([*e, *f, *g, *h]),
             source_port,
             destination_port,
-            protocol,
+            protocol: *protocol,
         })
     }
 }
@@ -58,18 +79,12 @@ fn has_ports(protocol: u8) -> bool
     protocol == TCP || protocol == UDP
 }
 
-// The four bytes from a place on.
-fn address(packet: &[u8], at: usize) -> u32
-    requires { at + 4 ≤ length packet.now }
-    ensures { result ≡ big_endian packet.now at 4 }
+// The two ports that some bytes begin with.
+fn ports(bytes: &[u8]) -> Option<(u16, u16)>
+    ensures { result ≡ (if nat_lt (length bytes.now) 4 then None else Some (big_endian bytes.now 0 2, big_endian bytes.now 2 2)) }
 {
-    u32::from_be_bytes([packet[at], packet[at + 1], packet[at + 2], packet[at + 3]])
-}
-
-// The two bytes from a place on.
-fn port(packet: &[u8], at: usize) -> u16
-    requires { at + 2 ≤ length packet.now }
-    ensures { result ≡ big_endian packet.now at 2 }
-{
-    u16::from_be_bytes([packet[at], packet[at + 1]])
+    let [a, b, c, d, ..] = bytes else {
+        return None;
+    };
+    Some((u16::from_be_bytes([*a, *b]), u16::from_be_bytes([*c, *d])))
 }

@@ -1,11 +1,19 @@
 // Port ranges.
-ghost use Rattle.std.specs.Prelude.{◌≡◌, ◌<◌};
-ghost use Rattle.routed.specs.Ranges.{range_of, in_range, ends_admit};
+ghost use Rattle.std.specs.Prelude.{◌≡◌, ◌<◌, ◌≤◌};
 
 use super::fault::Defect;
-use super::rule::PortRange;
+
+// The ports from the low end to the high end, both included.
+#[derive(Clone, Copy, Debug, PartialEq, Eq)]
+pub struct PortRange {
+    pub(crate) low: u16,
+    pub(crate) high: u16,
+    ghost ordered: { low ≤ high },
+}
 
 impl PortRange {
+    ghost use Rattle.routed.specs.Ranges.{range_of, in_range, ends_admit};
+
     // The range of two ends, or what is wrong with them.
     pub fn new(low: u16, high: u16) -> Result<PortRange, Defect>
         ensures { result ≡ range_of low high }

@@ -1,11 +1,20 @@
 // Address prefixes.
-ghost use Rattle.std.specs.Prelude.{◌≡◌};
-ghost use Rattle.routed.specs.Prefixes.{prefix_of, in_prefix, prefix_admits};
+ghost use Rattle.std.specs.Prelude.{◌≡◌, ◌-◌, ◌%◌, ◌^◌, ◌≤◌};
 
 use super::fault::Defect;
-use super::rule::Prefix;
+
+// The first bits of an address; the address has no one past them.
+#[derive(Clone, Copy, Debug, PartialEq, Eq)]
+pub struct Prefix {
+    pub(crate) address: u32,
+    pub(crate) length: u8,
+    ghost short: { length ≤ 32 },
+    ghost clean: { address % 2 ^ (32 - length) ≡ 0 },
+}
 
 impl Prefix {
+    ghost use Rattle.routed.specs.Prefixes.{prefix_of, in_prefix, prefix_admits};
+
     // The prefix of an address and a length, or what is wrong with them.
     pub fn new(address: u32, length: u8) -> Result<Prefix, Defect>
         ensures { result ≡ prefix_of address length }
@@ -13,7 +22,7 @@ impl Prefix {
         if length > 32 {
             return Err(Defect::PrefixLength);
         }
-        if address as u64 % (1u64 << (32 - length)) != 0 {
+        if u64::from(address) % (1u64 << (32 - length)) != 0 {
             return Err(Defect::StrayBit);
         }
         Ok(Prefix { address, length })
@@ -24,13 +33,13 @@ impl Prefix {
         ensures { result ≡ in_prefix self.now address }
     {
         let free = 32 - self.length;
-        address as u64 >> free == self.address as u64 >> free
+        u64::from(address) >> free == u64::from(self.address) >> free
     }
 
     // Whether a value is admitted at bit b: the own one below the length, both from there on.
     pub(crate) fn admits(&self, b: usize, value: bool) -> bool
         ensures { result ≡ prefix_admits self.now b value }
     {
-        b >= self.length as usize || value == ((self.address >> (31 - b)) % 2 == 1)
+        b >= usize::from(self.length) || value == ((self.address >> (31 - b)) % 2 == 1)
     }
 }

@@ -1,11 +1,20 @@
 // Protocols under a mask.
-ghost use Rattle.std.specs.Prelude.{◌≡◌, ◌<◌};
-ghost use Rattle.routed.specs.Protocols.{protocol_of, is_protocol, protocol_admits};
+ghost use Rattle.std.specs.Prelude.{◌≡◌, ◌<◌, true, ◌||◌, ◌==◌, bit_and};
 
 use super::fault::Defect;
-use super::rule::ProtocolMatch;
+
+// One protocol, or any where the mask is 0; the value has no bit outside the mask.
+#[derive(Clone, Copy, Debug, PartialEq, Eq)]
+pub struct ProtocolMatch {
+    pub(crate) value: u8,
+    pub(crate) mask: u8,
+    ghost whole: { (mask == 0 || mask == 255) ≡ true },
+    ghost inside: { bit_and value mask ≡ value },
+}
 
 impl ProtocolMatch {
+    ghost use Rattle.routed.specs.Protocols.{protocol_of, is_protocol, protocol_admits};
+
     // The protocol of a value and a mask, or what is wrong with them.
     pub fn new(value: u8, mask: u8) -> Result<ProtocolMatch, Defect>
         ensures { result ≡ protocol_of value mask }

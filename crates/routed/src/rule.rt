@@ -1,34 +1,14 @@
 // A rule by its parts, each of which promises in its type what matching and admission rely on, and the plain numbers that may hold one.
-ghost use Rattle.std.specs.Prelude.{◌≡◌, ◌-◌, ◌%◌, ◌^◌, ◌≤◌, true, ◌||◌, ◌==◌, bit_and};
+ghost use Rattle.std.specs.Prelude.{◌≡◌};
+ghost use Rattle.routed.specs.Routed.{rule_in};
 
-// The first bits of an address; the address has no one past them.
-#[derive(Clone, Copy)]
-pub struct Prefix {
-    pub(crate) address: u32,
-    pub(crate) length: u8,
-    ghost short: { length ≤ 32 },
-    ghost clean: { address % 2 ^ (32 - length) ≡ 0 },
-}
-
-// The ports from the low end to the high end, both included.
-#[derive(Clone, Copy)]
-pub struct PortRange {
-    pub(crate) low: u16,
-    pub(crate) high: u16,
-    ghost ordered: { low ≤ high },
-}
-
-// One protocol, or any where the mask is 0; the value has no bit outside the mask.
-#[derive(Clone, Copy)]
-pub struct ProtocolMatch {
-    pub(crate) value: u8,
-    pub(crate) mask: u8,
-    ghost whole: { (mask == 0 || mask == 255) ≡ true },
-    ghost inside: { bit_and value mask ≡ value },
-}
+use super::fault::{Fault, RuleField};
+use super::ports::PortRange;
+use super::prefix::Prefix;
+use super::protocol::ProtocolMatch;
 
 // A rule: it matches a header that lies in every part.
-#[derive(Clone, Copy)]
+#[derive(Clone, Copy, Debug, PartialEq, Eq)]
 pub struct Rule {
     pub source: Prefix,
     pub destination: Prefix,
@@ -38,7 +18,7 @@ pub struct Rule {
 }
 
 // The plain numbers of a rule; not all of them hold one.
-#[derive(Clone, Copy)]
+#[derive(Clone, Copy, Debug, PartialEq, Eq)]
 pub struct Row {
     pub source: u32,
     pub source_length: u8,
@@ -50,4 +30,33 @@ pub struct Row {
     pub destination_high: u16,
     pub protocol: u8,
     pub mask: u8,
+}
+
+// The rule that a row holds, or the first field in bit order that is wrong and why.
+impl TryFrom<Row> for Rule {
+    type Error = Fault;
+
+    ghost try_from_gives = { λ row result. result ≡ rule_in row };
+
+    fn try_from(row: Row) -> Result<Rule, Fault> {
+        Ok(Rule {
+            source: Prefix::new(row.source, row.source_length).map_err(|defect| Fault::NoRule(
+                RuleField::Source,
+                defect,
+            ))?,
+            destination: Prefix::new(row.destination, row.destination_length).map_err(
+                |defect| Fault::NoRule(RuleField::Destination, defect),
+            )?,
+            source_ports: PortRange::new(row.source_low, row.source_high).map_err(
+                |defect| Fault::NoRule(RuleField::SourcePorts, defect),
+            )?,
+            destination_ports: PortRange::new(row.destination_low, row.destination_high).map_err(
+                |defect| Fault::NoRule(RuleField::DestinationPorts, defect),
+            )?,
+            protocol: ProtocolMatch::new(row.protocol, row.mask).map_err(|defect| Fault::NoRule(
+                RuleField::Protocol,
+                defect,
+            ))?,
+        })
+    }
 }

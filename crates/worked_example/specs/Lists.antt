@@ -1,20 +1,11 @@
 -- What the client's two lists answer.
---     row_beginning   the bridge row of a first value byte and a first mask byte, the others zero
 --     Fills           a line is filled with the rule that a row holds, or it is told why the row holds none
 --     Answers         the lowest line for the header that was read and how many were compared, or it is told why none was read
 -- Assumes nothing.
-use Rattle.std.specs.Prelude.{◌≡◌, ℕ, ◌*◌, ◌^◌, List, length, Some, Ok, Err, Option, Result}
+use Rattle.std.specs.Prelude.{◌≡◌, ℕ, List, length, Some, Ok, Err, Option, Result}
 use Rattle.kinds.specs.Meaning.{Meaning}
 use Rattle.kinds.specs.Lines.{rule_of, rules_of, Lowest, compared_for}
 use Rattle.kinds.specs.declared.line.Line.{Line}
-use Rattle.bridge.specs.declared.octets.Octets.{Octets}
-use Rattle.bridge.specs.declared.rule.Row.{Row}
-
-abbrev pub beginning_with : ℕ → Octets
-beginning_with byte = record { first = byte * 2 ^ 56; middle = 0; last = 0 }
-
-abbrev pub row_beginning : ℕ → ℕ → Row
-row_beginning value mask = record { value = beginning_with value; mask = beginning_with mask }
 
 module _ {Header Rule LineRow Fault : Type 0} (k : Meaning Header Rule LineRow) where
   abbrev pub Fills : Result Rule Fault → Result (Line LineRow) Fault → Type 0

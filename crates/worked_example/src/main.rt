@@ -2,6 +2,7 @@
 #![tactic(auto)]
 
 mod frames;
+mod list;
 mod packets;
 mod samples;
 mod say;

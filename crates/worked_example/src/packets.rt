@@ -1,12 +1,8 @@
 // A small routed list that guards a print server, and packets that are answered by the first line that matches.
-ghost use Rattle.routed.specs.Packets.{header_of};
-ghost use Rattle.routed.specs.Routed.{routed, rule_in};
-ghost use Rattle.worked_example.specs.Lists.{Fills, Answers};
-
 use super::say::Dotted;
-use super::{samples, say};
+use super::{list, samples, say};
 use kinds::Line;
-use routed::{Fault, Header, Routed, Row, Rule};
+use routed::{Header, Routed, Row, Rule};
 use std::io;
 
 // Everything from everywhere to everywhere.
@@ -71,72 +67,54 @@ const ROWS: [Row; 5] = [
     },
 ];
 
-fn say_row(rt: &HostRuntime, row: &Row) -> io::Result<()> {
-    let source = Dotted(row.source);
-    let source_length = row.source_length;
-    let destination = Dotted(row.destination);
-    let destination_length = row.destination_length;
-    let low = row.destination_low;
-    let high = row.destination_high;
-    let protocol = row.protocol;
-    let mask = row.mask;
+fn say_row(rt: &impl Print, row: &Row) -> io::Result<()> {
     println!(rt;
-        "Row: {source}/{source_length} to {destination}/{destination_length}, ports {low} to {high}, protocol {protocol} under mask {mask}"
+        "Row: {}/{} to {}/{}, ports {} to {}, protocol {} under mask {}",
+        Dotted(row.source),
+        row.source_length,
+        Dotted(row.destination),
+        row.destination_length,
+        row.destination_low,
+        row.destination_high,
+        row.protocol,
+        row.mask
     )
-}
-
-// A line filled with the rule that a row holds.
-fn line(row: &Row) -> Result<Line<Row>, Fault>
-    ensures { Fills routed (rule_in row.now) result }
-{
-    let rule = Rule::new(row)?;
-    Ok(kinds::filled::<Routed>(&rule))
 }
 
 fn make_lines(rt: &HostRuntime) -> io::Result<Vec<Line<Row>>> {
     let mut lines = Vec::new(rt.alloc());
     for row in ROWS {
         say_row(rt, &row)?;
-        match line(&row) {
+        match list::line::<Routed, _>(Rule::try_from(row)) {
             Ok(line) => {
                 let number = lines.len();
                 lines.push(line)?;
                 println!(rt; "  becomes line {number}")?;
             }
-            Err(fault) => say::refusal(rt, fault.code())?,
+            Err(fault) => say::refusal(rt, fault)?,
         }
     }
     Ok(lines)
 }
 
-fn say_header(rt: &HostRuntime, header: &Header) -> io::Result<()> {
-    let source = Dotted(header.source);
-    let source_port = header.source_port;
-    let destination = Dotted(header.destination);
-    let destination_port = header.destination_port;
-    let protocol = header.protocol;
+fn say_header(rt: &impl Print, header: &Header) -> io::Result<()> {
     println!(rt;
-        "  from {source} port {source_port} to {destination} port {destination_port}, protocol {protocol}"
+        "  from {} port {} to {} port {}, protocol {}",
+        Dotted(header.source),
+        header.source_port,
+        Dotted(header.destination),
+        header.destination_port,
+        header.protocol
     )
 }
 
-// The line that answers a packet, or none, with the lines compared.
-fn answer(lines: &[Line<Row>], packet: &[u8]) -> Result<(Option<usize>, usize), Fault>
-    ensures { Answers routed lines.now (header_of packet.now) result }
-{
-    let header = Header::read(packet)?;
-    Ok(kinds::first_match::<Routed>(lines, &header))
-}
-
-fn filter(rt: &HostRuntime, lines: &[Line<Row>], name: &str, packet: &[u8]) -> io::Result<()> {
+fn filter(rt: &impl Print, lines: &[Line<Row>], name: &str, packet: &[u8]) -> io::Result<()> {
     println!(rt; "Packet: {name}")?;
-    if let Ok(header) = Header::read(packet) {
-        say_header(rt, &header)?;
+    let header = Header::read(packet);
+    if let Ok(header) = &header {
+        say_header(rt, header)?;
     }
-    match answer(lines, packet) {
-        Ok((line, compared)) => say::answer(rt, line, compared),
-        Err(fault) => say::refusal(rt, fault.code()),
-    }
+    say::answer(rt, list::answer::<Routed, _>(lines, header))
 }
 
 pub(crate) fn run(rt: &HostRuntime) -> io::Result<()> {

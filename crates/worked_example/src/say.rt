@@ -13,16 +13,28 @@ impl fmt::Display for Dotted {
     }
 }
 
-pub(crate) fn answer(rt: &HostRuntime, line: Option<usize>, compared: usize) -> io::Result<()> {
-    match line {
-        Some(line) => println!(rt; "  answered by line {line}, lines compared: {compared}"),
-        None => println!(rt; "  answered by no line, lines compared: {compared}"),
+// The answer to a header, or why there was none.
+pub(crate) fn answer<F>(
+    rt: &impl Print,
+    answer: Result<(Option<usize>, usize), F>,
+) -> io::Result<()>
+where
+    FaultCode: From<F>,
+{
+    match answer {
+        Ok((Some(line), compared)) => {
+            println!(rt; "  answered by line {line}, lines compared: {compared}")
+        }
+        Ok((None, compared)) => {
+            println!(rt; "  answered by no line, lines compared: {compared}")
+        }
+        Err(fault) => refusal(rt, fault),
     }
 }
 
-pub(crate) fn refusal(rt: &HostRuntime, code: FaultCode) -> io::Result<()> {
-    let number = code.number;
-    let layer = code.layer;
-    let place = code.place;
-    println!(rt; "  refused {number} layer {layer} place {place}")
+pub(crate) fn refusal<F>(rt: &impl Print, fault: F) -> io::Result<()>
+where
+    FaultCode: From<F>,
+{
+    println!(rt; "  refused {}", FaultCode::from(fault))
 }

@@ -1,5 +1,6 @@
 // What the client prints of an answer, a table and a refusal.
 use blocks::Refusal;
+use bridge::Fault;
 use kinds::FaultCode;
 use layout::Spoilt;
 use std::io;
@@ -35,9 +36,6 @@ pub(crate) fn no_table(rt: &HostRuntime, refusal: Refusal) -> io::Result<()> {
     }
 }
 
-pub(crate) fn refusal(rt: &HostRuntime, code: FaultCode) -> io::Result<()> {
-    let number = code.number;
-    let layer = code.layer;
-    let place = code.place;
-    println!(rt; "  refused {number} layer {layer} place {place}")
+pub(crate) fn refusal(rt: &HostRuntime, fault: Fault) -> io::Result<()> {
+    println!(rt; "  refused {}", FaultCode::from(fault))
 }

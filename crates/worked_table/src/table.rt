@@ -116,7 +116,7 @@ fn say_answer(
     match answer(lines, bits, area, &frame(first)) {
         Ok(Ok((line, tried))) => say::tried(rt, line, tried),
         Ok(Err(spoilt)) => say::spoilt(rt, spoilt),
-        Err(fault) => say::refusal(rt, fault.code()),
+        Err(fault) => say::refusal(rt, fault),
     }
 }
 
