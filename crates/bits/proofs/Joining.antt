@@ -1,16 +1,19 @@
 -- A bit joins a rising list: each place keeps the lesser of two numbers and hands on the larger.
-use Rattle.std.proofs.Common.{◌≡◌, ℕ, zero, suc, ◌+◌, ◌<◌, ◌≤◌, min, max, true, false, ltb, List, [], ◌∷◌, length, get_or, take, refl, ap, ◌∙◌, inl, inr, add-one, arith}
+use Rattle.std.proofs.Common.{◌≡◌, ℕ, zero, suc, ◌+◌, ◌<◌, ◌≤◌, min, max, true, false, ltb, List, [], ◌∷◌, length, get_or, take, refl, sym, ap, ◌∙◌, inl, inr, add-one, arith}
 use Rattle.std.proofs.lemmas.Bool.{cases_lt, lt-ltb, le-ltb, and_from}
 use Rattle.std.proofs.lemmas.Bool.Decides.{nat_tests}
-use Rattle.bits.specs.Chosen.{places, bits_of, joins}
-use Rattle.bits.specs.declared.set.Bits.{Bits}
+use Rattle.bits.specs.Chosen.{joins}
+use Rattle.bits.specs.declared.set.Bits.TheInside.{Inside}
+use Rattle.bits.specs.Places.{places, bits_in, Sound, IsSound}
+use Rattle.bits.specs.PlacesLaw.{length-used}
 use Rattle.bits.specs.Sets.{below_first, rising, member, with_bit}
-use Rattle.bits.proofs.Sound.{Sound}
 
+-- what the places hold after a number has passed them
 abbrev pub handed_on : ℕ → List ℕ → List ℕ
 handed_on b [] = []
 handed_on b (c ∷ cs) = min b c ∷ handed_on (max b c) cs
 
+-- a bit below the first joins in front
 with_bit_first : (b : ℕ) (cs : List ℕ) → below_first b cs ≡ true → with_bit b cs ≡ b ∷ cs
 with_bit_first b [] r = refl
 with_bit_first b (c ∷ cs) r = simp r
@@ -24,6 +27,7 @@ with_bit_min_max b c cs r =
       | inr p ↦ (let lo : min b c ≡ c = omega arith in let hi : max b c ≡ b = omega arith in rw (lo, hi, le-ltb b c p))
     ]
 
+-- the places in use and one more hold the list with the bit
 take-handed_on : (n b : ℕ) (l : List ℕ) → n < length l → rising (take n l) ≡ true → ((k : ℕ) → k < n → get_or l k 0 ≤ get_or l n 0) → b ≤ get_or l n 0 → take (suc n) (handed_on b l) ≡ with_bit b (take n l)
 take-handed_on n b [] lt r low le = absurd (omega arith)
 take-handed_on zero b (c ∷ cs) lt r low le = let e : min b c ≡ b = omega arith in ap (λ (d : ℕ). d ∷ []) e
@@ -33,10 +37,12 @@ take-handed_on (suc n) b (c ∷ cs) lt r low le =
     ap (λ (ds : List ℕ). min b c ∷ ds) (take-handed_on n (max b c) cs (omega arith) up (λ k h. low (suc k) (omega arith)) le')
     ∙ with_bit_min_max b c (take n cs) r
 
+-- a number below a list stays below it as a larger bit joins
 first_with_bit : (b c : ℕ) (cs : List ℕ) → c < b → below_first c cs ≡ true → below_first c (with_bit b cs) ≡ true
 first_with_bit b c [] lt u = grind (arith, nat_tests)
 first_with_bit b c (d ∷ ds) lt u = elim (cases_lt b d) [ inl p ↦ rw (lt-ltb b d p) (lt-ltb c b lt) | inr p ↦ rw (le-ltb b d p) u ]
 
+-- a rising list rises still as a new bit joins
 rising-with_bit : (b : ℕ) (l : List ℕ) → rising l ≡ true → member b l ≡ false → rising (with_bit b l) ≡ true
 rising-with_bit b [] r m = refl
 rising-with_bit b (c ∷ cs) r m =
@@ -60,6 +66,7 @@ free_handed_on mark (suc n) b (suc k) (c ∷ cs) le inside low last free used =
     let here = used 0 (omega arith) in
     free_handed_on mark n (max b c) k cs (omega arith) (omega arith) (omega arith) (λ e. omega (arith, last (omega arith))) (λ j p q. free (suc j) (omega arith) (omega arith)) (λ j p. used (suc j) (omega arith))
 
+-- a place in use holds a number below the mark
 below_handed_on : (mark n b k : ℕ) (l : List ℕ) → k ≤ n → n < length l → b < mark → ((j : ℕ) → j < n → get_or l j 0 < mark) → get_or (handed_on b l) k 0 < mark
 below_handed_on mark n b k [] le inside low used = absurd (omega arith)
 below_handed_on mark n b zero (c ∷ cs) le inside low used = omega arith
@@ -68,26 +75,33 @@ below_handed_on mark (suc n) b (suc k) (c ∷ cs) le inside low used =
     below_handed_on mark n (max b c) k cs (omega arith) (omega arith) (omega (arith, used 0 (omega arith))) (λ j p. used (suc j) (omega arith))
 
 -- the places of a set that one more bit has joined
-module _ (s : Bits) (b : ℕ) (after : List ℕ) (is : after ≡ handed_on b (places s)) (room : s.count < 12) (new : joins b (bits_of s) ≡ true) where
+module _ (s : Inside) (b : ℕ) (bits after : List ℕ) (view_is : bits_in s ≡ bits) (sound : IsSound s) (is : after ≡ handed_on b (places s)) (room : length bits < 12) (new : joins b bits ≡ true) where
+  inside : s.count < 12
+  inside = omega (arith, ap length view_is, length-used s.count (places s) refl sound)
+
   low : b < 1024
   low = grind (arith, nat_tests)
 
-  pub bits_joined : take (s.count + 1) after ≡ with_bit b (bits_of s)
+  rises : rising bits ≡ true
+  rises = ap rising (sym view_is) ∙ sound.rises
+
+  pub bits_joined : take (s.count + 1) after ≡ with_bit b bits
   bits_joined =
-      let mark = s.free s.count (omega arith) room in
+      let mark = sound.free s.count (omega arith) inside in
       ap (λ (l : List ℕ). take (s.count + 1) l) is
       ∙ ap (λ (n : ℕ). take n (handed_on b (places s))) (add-one s.count)
-      ∙ take-handed_on s.count b (places s) room s.rises (λ k p. omega (arith, s.below k p)) (omega (arith, low))
+      ∙ take-handed_on s.count b (places s) inside sound.rises (λ k p. omega (arith, sound.below k p)) (omega (arith, low))
+      ∙ ap (with_bit b) view_is
 
   rising_joined : rising (take (s.count + 1) after) ≡ true
-  rising_joined = ap rising bits_joined ∙ rising-with_bit b (bits_of s) s.rises (grind (arith, nat_tests))
+  rising_joined = ap rising bits_joined ∙ rising-with_bit b bits rises (grind (arith, nat_tests))
 
   below_joined : (k : ℕ) → k < s.count + 1 → get_or after k 0 < 1024
-  below_joined k p = rw is (below_handed_on 1024 s.count b k (places s) (omega arith) room low s.below)
+  below_joined k p = rw is (below_handed_on 1024 s.count b k (places s) (omega arith) inside low sound.below)
 
   free_joined : (k : ℕ) → s.count + 1 ≤ k → k < 12 → get_or after k 0 ≡ 1024
   free_joined k p q =
-      rw is (free_handed_on 1024 s.count b k (places s) (omega arith) q (omega (arith, low)) (λ e. absurd (omega arith)) s.free (λ j h. omega (arith, s.below j h)))
+      rw is (free_handed_on 1024 s.count b k (places s) (omega arith) q (omega (arith, low)) (λ e. absurd (omega arith)) sound.free (λ j h. omega (arith, sound.below j h)))
 
   pub joined_sound : Sound (s.count + 1) after
-  joined_sound = record { few = omega arith; rises = rising_joined; below = below_joined; free = free_joined }
+  joined_sound = record { few = omega (arith, inside); rises = rising_joined; below = below_joined; free = free_joined }

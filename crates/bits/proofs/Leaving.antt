@@ -1,19 +1,21 @@
 -- A bit leaves a rising list: from that bit on, each place takes what the next one holds.
-use Rattle.std.proofs.Common.{◌≡◌, ℕ, zero, suc, ◌-◌, ◌<◌, ◌≤◌, true, false, cond, eqb, ltb, List, [], ◌∷◌, length, get_or, take, refl, ap, ◌∙◌, inl, inr, arith, length-take, get_or-take}
+use Rattle.std.proofs.Common.{◌≡◌, ℕ, zero, suc, ◌-◌, ◌<◌, ◌≤◌, true, false, cond, eqb, ltb, List, [], ◌∷◌, length, get_or, take, refl, sym, ap, ◌∙◌, inl, inr, arith, length-take, get_or-take}
 use Rattle.std.proofs.lemmas.Bool.{cases_eq, cases_lt, eq-eqb, ne_eqb, lt-ltb, le-ltb, and_from}
 use Rattle.std.proofs.lemmas.Bool.Decides.{nat_tests}
 use Rattle.std.proofs.lemmas.List.{get_or_default, get_or_past}
-use Rattle.bits.specs.Chosen.{places, bits_of, joins}
-use Rattle.bits.specs.declared.set.Bits.{Bits}
+use Rattle.bits.specs.Chosen.{joins}
+use Rattle.bits.specs.declared.set.Bits.TheInside.{Inside}
+use Rattle.bits.specs.Places.{places, bits_in, Sound, IsSound}
+use Rattle.bits.specs.PlacesLaw.{length-used}
 use Rattle.bits.specs.Sets.{below_first, rising, member, without_bit}
-use Rattle.bits.proofs.Sound.{Sound}
 use Rattle.bits.proofs.Members.{member_at, member_some, member_behind, member_last, member_without}
-use Rattle.bits.proofs.Facts.{length-bits_of}
 
+-- what the places hold after a bit has left
 abbrev pub moved_up : ℕ → List ℕ → List ℕ
 moved_up out [] = []
 moved_up out (c ∷ cs) = cond (ltb c out) c (get_or cs 0 1024) ∷ moved_up out cs
 
+-- a place keeps a number below that bit, and else takes the next
 get_or-moved_up : (out k : ℕ) (l : List ℕ) → k < length l → get_or (moved_up out l) k 0 ≡ cond (ltb (get_or l k 0) out) (get_or l k 0) (get_or l (suc k) 1024)
 get_or-moved_up out k [] lt = absurd (omega arith)
 get_or-moved_up out zero (c ∷ cs) lt = refl
@@ -27,11 +29,13 @@ take_behind (suc n) out (c ∷ cs) lt high =
     let stays = le-ltb c out (high 0 (omega arith)) in
     ap (λ (ds : List ℕ). c ∷ ds) (rw stays (take_behind n out cs (omega arith) (λ k h. high (suc k) (omega arith))))
 
+-- each later number of a rising list lies above its first
 above_first : (n c : ℕ) (cs : List ℕ) → n < length cs → rising (c ∷ take (suc n) cs) ≡ true → (k : ℕ) → k ≤ n → c < get_or cs k 0
 above_first n c cs lt r k h =
     member_behind (get_or cs k 0) c (take (suc n) cs) r
     (member_at (get_or cs k 0) (take (suc n) cs) k (omega (arith, length-take (suc n) cs)) (get_or-take (suc n) cs k 0 (omega arith)))
 
+-- the places in use but one hold the list without the bit
 take-moved_up : (n out : ℕ) (l : List ℕ) → n < length l → rising (take (suc n) l) ≡ true → member out (take (suc n) l) ≡ true → take n (moved_up out l) ≡ without_bit out (take (suc n) l)
 take-moved_up n out [] lt r m = absurd (omega arith)
 take-moved_up zero out (c ∷ cs) lt r m = let e : eqb out c ≡ true = grind (arith, nat_tests) in rw e
@@ -44,11 +48,13 @@ take-moved_up (suc n) out (c ∷ cs) lt r m =
           rw (ne_eqb out c ne, lt-ltb c out (member_behind out c (take (suc n) cs) r rest)) (ap (λ (ds : List ℕ). c ∷ ds) (take-moved_up n out cs (omega arith) up rest)))
     ]
 
+-- a number below a list stays below it as a bit leaves
 first_without : (out c : ℕ) (cs : List ℕ) → rising (c ∷ cs) ≡ true → below_first c (without_bit out cs) ≡ true
 first_without out c [] r = refl
 first_without out c (d ∷ []) r = elim (cases_eq out d) [ inl p ↦ rw (eq-eqb out d p) | inr n ↦ rw (ne_eqb out d n) (grind (arith, nat_tests)) ]
 first_without out c (d ∷ e ∷ es) r = elim (cases_eq out d) [ inl p ↦ rw (eq-eqb out d p) (grind (arith, nat_tests)) | inr n ↦ rw (ne_eqb out d n) (grind (arith, nat_tests)) ]
 
+-- a rising list rises still as a bit leaves
 rising_without : (out : ℕ) (l : List ℕ) → rising l ≡ true → rising (without_bit out l) ≡ true
 rising_without out [] r = refl
 rising_without out (c ∷ cs) r =
@@ -66,21 +72,24 @@ joins_without b out l j =
     grind (arith, nat_tests)
 
 -- a free place, or one past the last
-free_from : (s : Bits) (k : ℕ) → s.count ≤ k → get_or (places s) k 1024 ≡ 1024
-free_from s k le = elim (cases_lt k 12) [ inl p ↦ get_or_default (places s) k 1024 0 p ∙ s.free k le p | inr p ↦ get_or_past (places s) k 1024 p ]
+free_from : (s : Inside) → IsSound s → (k : ℕ) → s.count ≤ k → get_or (places s) k 1024 ≡ 1024
+free_from s sound k le = elim (cases_lt k 12) [ inl p ↦ get_or_default (places s) k 1024 0 p ∙ sound.free k le p | inr p ↦ get_or_past (places s) k 1024 p ]
 
 -- the places of a set that one of its bits has left
-module _ (s : Bits) (out : ℕ) (after : List ℕ) (is : after ≡ moved_up out (places s)) (has : member out (bits_of s) ≡ true) where
+module _ (s : Inside) (out : ℕ) (bits after : List ℕ) (view_is : bits_in s ≡ bits) (sound : IsSound s) (is : after ≡ moved_up out (places s)) (has : member out bits ≡ true) where
   counted : suc (s.count - 1) ≡ s.count
-  counted = omega (arith, length-bits_of s, member_some out (bits_of s) has)
+  counted = omega (arith, ap length view_is, length-used s.count (places s) refl sound, member_some out bits has)
 
-  whole : take (suc (s.count - 1)) (places s) ≡ bits_of s
-  whole = ap (λ (n : ℕ). take n (places s)) counted
+  whole : take (suc (s.count - 1)) (places s) ≡ bits
+  whole = ap (λ (n : ℕ). take n (places s)) counted ∙ view_is
 
-  pub bits_parted : take (s.count - 1) after ≡ without_bit out (bits_of s)
+  rises : rising bits ≡ true
+  rises = ap rising (sym view_is) ∙ sound.rises
+
+  pub bits_parted : take (s.count - 1) after ≡ without_bit out bits
   bits_parted =
       ap (λ (l : List ℕ). take (s.count - 1) l) is
-      ∙ take-moved_up (s.count - 1) out (places s) (omega (arith, counted, s.few)) (ap rising whole ∙ s.rises) (ap (member out) whole ∙ has)
+      ∙ take-moved_up (s.count - 1) out (places s) (omega (arith, counted, sound.few)) (ap rising whole ∙ rises) (ap (member out) whole ∙ has)
       ∙ ap (without_bit out) whole
 
   at_parted : (k : ℕ) → k < 12 → get_or after k 0 ≡ cond (ltb (get_or (places s) k 0) out) (get_or (places s) k 0) (get_or (places s) (suc k) 1024)
@@ -88,19 +97,19 @@ module _ (s : Bits) (out : ℕ) (after : List ℕ) (is : after ≡ moved_up out 
 
   below_parted : (k : ℕ) → k < s.count - 1 → get_or after k 0 < 1024
   below_parted k p =
-      let here = s.below k (omega arith) in
-      let next = s.below (suc k) (omega (arith, counted)) in
-      let same : get_or (places s) (suc k) 1024 ≡ get_or (places s) (suc k) 0 = get_or_default (places s) (suc k) 1024 0 (omega (arith, counted, s.few)) in
-      rw (at_parted k (omega (arith, counted, s.few))) (grind (arith, nat_tests))
+      let here = sound.below k (omega arith) in
+      let next = sound.below (suc k) (omega (arith, counted)) in
+      let same : get_or (places s) (suc k) 1024 ≡ get_or (places s) (suc k) 0 = get_or_default (places s) (suc k) 1024 0 (omega (arith, counted, sound.few)) in
+      rw (at_parted k (omega (arith, counted, sound.few))) (grind (arith, nat_tests))
 
   free_parted : (k : ℕ) → s.count - 1 ≤ k → k < 12 → get_or after k 0 ≡ 1024
   free_parted k p q =
-      let next = free_from s (suc k) (omega (arith, counted)) in
-      let last = member_last out (s.count - 1) (places s) (omega (arith, counted, s.few)) (ap rising whole ∙ s.rises) (ap (member out) whole ∙ has) in
+      let next = free_from s sound (suc k) (omega (arith, counted)) in
+      let last = member_last out (s.count - 1) (places s) (omega (arith, counted, sound.few)) (ap rising whole ∙ rises) (ap (member out) whole ∙ has) in
       elim (cases_lt k s.count) [
         | inl lt ↦ (let here : s.count - 1 ≡ k = omega arith in let high = rw here at last in rw (at_parted k q) (grind (arith, nat_tests)))
-        | inr ge ↦ (let here = s.free k ge q in rw (at_parted k q) (grind (arith, nat_tests)))
+        | inr ge ↦ (let here = sound.free k ge q in rw (at_parted k q) (grind (arith, nat_tests)))
       ]
 
   pub parted_sound : Sound (s.count - 1) after
-  parted_sound = record { few = omega (arith, s.few); rises = ap rising bits_parted ∙ rising_without out (bits_of s) s.rises; below = below_parted; free = free_parted }
+  parted_sound = record { few = omega (arith, sound.few); rises = ap rising bits_parted ∙ rising_without out bits rises; below = below_parted; free = free_parted }

@@ -1,5 +1,5 @@
-mod Sound
 mod Members
 mod Joining
 mod Leaving
-pub mod Facts
+mod Places
+mod Same

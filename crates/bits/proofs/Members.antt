@@ -1,21 +1,22 @@
--- Which numbers a rising list has.
-use Rattle.std.proofs.Common.{◌≡◌, ℕ, zero, suc, ◌<◌, ◌≤◌, true, false, List, [], ◌∷◌, length, get_or, take, refl, inl, inr, arith}
+-- Which numbers a list has.
+use Rattle.std.proofs.Common.{◌≡◌, ℕ, zero, suc, ◌<◌, ◌≤◌, true, false, eqb, List, [], ◌∷◌, length, get_or, take, refl, inl, inr, arith}
+use Rattle.std.specs.List.{list_any}
 use Rattle.std.proofs.lemmas.Bool.{both_ways, cases_eq, eq-eqb, ne_eqb}
 use Rattle.std.proofs.lemmas.Bool.Decides.{nat_tests}
 use Rattle.bits.specs.Sets.{rising, member, without_bit}
 
-pub member_none : (b : ℕ) (l : List ℕ) → ((k : ℕ) → k < length l → get_or l k 0 ≡ b → ⊥) → member b l ≡ false
-member_none b [] h = refl
-member_none b (c ∷ cs) h =
-    let here : c ≡ b → ⊥ = λ e. h 0 (omega arith) e in
-    let rest = member_none b cs (λ k lt e. h (suc k) (omega arith) e) in
-    grind (arith, nat_tests)
+-- a search through the list finds its members
+pub list_any-member : (b : ℕ) (l : List ℕ) → list_any (λ c. eqb c b) l ≡ member b l
+list_any-member b [] = refl
+list_any-member b (c ∷ cs) = let rest = list_any-member b cs in grind (arith, nat_tests)
 
+-- what stands at a place is a member
 pub member_at : (b : ℕ) (l : List ℕ) (k : ℕ) → k < length l → get_or l k 0 ≡ b → member b l ≡ true
 member_at b [] k lt e = absurd (omega arith)
 member_at b (c ∷ cs) zero lt e = grind (arith, nat_tests)
 member_at b (c ∷ cs) (suc k) lt e = let rest = member_at b cs k (omega arith) e in grind (arith, nat_tests)
 
+-- a list with a member is not empty
 pub member_some : (b : ℕ) (l : List ℕ) → member b l ≡ true → 0 < length l
 member_some b [] m = absurd (both_ways false refl m)
 member_some b (c ∷ cs) m = omega arith
@@ -43,6 +44,7 @@ member_last b (suc n) (c ∷ d ∷ ds) lt r m =
       | inr ne ↦ (let rest : member b (take (suc n) (d ∷ ds)) ≡ true = grind (arith, nat_tests) in member_last b n (d ∷ ds) (omega arith) up rest)
     ]
 
+-- what was no member is none as another bit leaves
 pub member_without : (b out : ℕ) (l : List ℕ) → member b l ≡ false → member b (without_bit out l) ≡ false
 member_without b out [] m = refl
 member_without b out (c ∷ cs) m =

@@ -1,2 +1,4 @@
 pub mod Sets
 pub mod Chosen
+pub mod Places
+pub mod PlacesLaw

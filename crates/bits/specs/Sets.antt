@@ -11,18 +11,22 @@ abbrev pub below_first : ℕ → List ℕ → Bool
 below_first b [] = true
 below_first b (c ∷ cs) = nat_lt b c
 
+-- whether each number lies above the one before it
 abbrev pub rising : List ℕ → Bool
 rising [] = true
 rising (b ∷ bs) = below_first b bs && rising bs
 
+-- whether a bit is in a set
 abbrev pub member : ℕ → List ℕ → Bool
 member b [] = false
 member b (c ∷ cs) = cond (b == c) true (member b cs)
 
+-- the set with one bit more, in its place
 abbrev pub with_bit : ℕ → List ℕ → List ℕ
 with_bit b [] = b ∷ []
 with_bit b (c ∷ cs) = cond (nat_lt b c) (b ∷ (c ∷ cs)) (c ∷ with_bit b cs)
 
+-- the set without one bit
 abbrev pub without_bit : ℕ → List ℕ → List ℕ
 without_bit b [] = []
 without_bit b (c ∷ cs) = cond (b == c) cs (c ∷ without_bit b cs)

@@ -2,6 +2,5 @@
 #![tactic(auto)]
 
 mod set;
-mod sets;
 
-pub use set::Bits;
+pub use set::{Bits, Iter};

@@ -1,7 +1,6 @@
 -- The cell of a header: its number is one of a cell, and a rule that matches the header admits it.
-use Rattle.std.proofs.Common.{◌≡◌, ℕ, suc, ◌+◌, ◌-◌, ◌*◌, ◌%◌, ◌^◌, ◌<◌, ◌≤◌, Bool, true, false, ◌&&◌, eqb, List, [], ◌∷◌, ◌++◌, length, get_or, take, drop, sym, refl, ap, ◌∙◌, mul_assoc, add-mul, arith}
+use Rattle.std.proofs.Common.{◌≡◌, ℕ, suc, ◌+◌, ◌*◌, ◌%◌, ◌^◌, ◌<◌, ◌≤◌, Bool, true, false, eqb, List, [], ◌∷◌, length, sym, refl, ap, ◌∙◌, mul_assoc, add-mul, arith, mul-le-mul, pow_mono}
 use native.Mathlib.Nat.{two-pow-succ}
-use Rattle.std.proofs.lemmas.List.{length_push, length-drop, take_all, take_more, length-take-le, at_drop_more}
 use mir.Val.{bool_byte}
 use Rattle.std.proofs.lemmas.Nat.{shr_high, mod-mul-add}
 use Rattle.std.proofs.lemmas.Bool.{and_from}
@@ -24,46 +23,42 @@ odd hi false = ap (λ x. eqb x 1) (mod-mul-add hi 2 0 (omega arith))
 pub digit_here : (hi n c : ℕ) (v : Bool) → c < 2 ^ n → digit ((hi * 2 + bool_byte v) * 2 ^ n + c) n ≡ v
 digit_here hi n c v h = ap (λ x. eqb (x % 2) 1) (shr_high (hi * 2 + bool_byte v) n c h) ∙ odd hi v
 
+pub byte_few : (v : Bool) → bool_byte v ≤ 1
+byte_few true = omega arith
+byte_few false = omega arith
+
 weigh_le : (v : Bool) (n : ℕ) → weigh v n ≤ 2 ^ n
 weigh_le true n = omega arith
 weigh_le false n = omega arith
 
-weigh_more : (v : Bool) (n m : ℕ) → m ≡ suc n → weigh v m ≡ 2 * weigh v n
-weigh_more true n m e = omega (arith, ap (λ x. 2 ^ x) e, two-pow-succ n)
-weigh_more false n m e = omega arith
-
-weigh_last : (v : Bool) → weigh v 0 + 0 ≡ 2 * 0 + bool_byte v
-weigh_last true = refl
-weigh_last false = refl
-
 module _ {Header Rule Row : Type 0} (k : Meaning Header Rule Row) where
-  -- one bit more at the end
-  pub cell_of_push : (bs : List ℕ) (b : ℕ) (h : Header) → cell_of k (bs ++ b ∷ []) h ≡ 2 * cell_of k bs h + bool_byte (k.bit h b)
-  cell_of_push [] b h = weigh_last (k.bit h b)
-  cell_of_push (c ∷ bs) b h = omega (arith, cell_of_push bs b h, weigh_more (k.bit h c) (length bs) (length (bs ++ b ∷ [])) (omega (arith, length_push bs b)))
-
   pub cell_of_below : (bits : List ℕ) (h : Header) → cell_of k bits h < 2 ^ length bits
   cell_of_below [] h = omega arith
   cell_of_below (b ∷ bs) h = omega (arith, cell_of_below bs h, weigh_le (k.bit h b) (length bs), two-pow-succ (length bs))
 
-  -- a loop's step over the bits
-  pub cell_of_more : (bits : List ℕ) (i : ℕ) (h : Header) → i < length bits → cell_of k (take (i + 1) bits) h ≡ 2 * cell_of k (take i bits) h + bool_byte (k.bit h (get_or bits i 0))
-  cell_of_more bits i h in' = ap (λ bs. cell_of k bs h) (take_more bits i 0 in') ∙ cell_of_push (take i bits) (get_or bits i 0) h
+  -- one turn of the loop over the bits: the first of those left moves from below the weights into the number
+  pub cell_turn : (bits left behind : List ℕ) (h : Header) (cell b byte : ℕ) (v : Bool) → left ≡ b ∷ behind → v ≡ k.bit h b → byte ≡ bool_byte v → cell * 2 ^ length left + cell_of k left h ≡ cell_of k bits h → (2 * cell + byte) * 2 ^ length behind + cell_of k behind h ≡ cell_of k bits h
+  cell_turn bits left behind h cell b byte v is told told_byte so_far =
+      let moved : (2 * cell + byte) * 2 ^ length behind + cell_of k behind h ≡ cell * 2 ^ suc (length behind) + (weigh v (length behind) + cell_of k behind h) =
+      ap (λ (n : ℕ). n * 2 ^ length behind + cell_of k behind h) (omega (arith, told_byte)) ∙ sym (regroup v cell (length behind) (cell_of k behind h)) in
+      moved
+      ∙ ap (λ (w : Bool). cell * 2 ^ suc (length behind) + (weigh w (length behind) + cell_of k behind h)) told
+      ∙ ap (λ (bs : List ℕ). cell * 2 ^ length bs + cell_of k bs h) (sym is)
+      ∙ so_far
 
-  pub cell_of_front_below : (bits : List ℕ) (i : ℕ) (h : Header) → i ≤ length bits → cell_of k (take i bits) h < 2 ^ i
-  cell_of_front_below bits i h le = let e = ap (λ n. 2 ^ n) (length-take-le i bits le) in omega (arith, cell_of_below (take i bits) h)
+  -- with no bit left it is the cell
+  pub cell_last : (bits left : List ℕ) (h : Header) (cell : ℕ) → left ≡ [] → cell * 2 ^ length left + cell_of k left h ≡ cell_of k bits h → cell < 2 ^ length bits
+  cell_last bits left h cell none so_far =
+      let is : cell * 2 ^ length left + cell_of k left h ≡ cell = ap (λ (bs : List ℕ). cell * 2 ^ length bs + cell_of k bs h) none ∙ omega arith in
+      omega (arith, cell_of_below bits h)
 
-  -- one turn of the loop over the bits, and its end
-  pub cell_step : (bits : List ℕ) (h : Header) (i cell b : ℕ) (v : Bool) → i < length bits → b ≡ get_or bits i 0 → v ≡ k.bit h b → cell ≡ cell_of k (take i bits) h → (2 * cell + bool_byte v ≡ cell_of k (take (i + 1) bits) h) × (2 * cell + bool_byte v < 2 ^ (i + 1))
-  cell_step bits h i cell b v lt at told so_far =
-      let bit : v ≡ k.bit h (get_or bits i 0) = told ∙ ap (k.bit h) at in
-      let is : 2 * cell + bool_byte v ≡ cell_of k (take (i + 1) bits) h = omega (arith, cell_of_more bits i h lt, ap bool_byte bit) in
-      (is, omega (arith, cell_of_front_below bits (i + 1) h (omega arith)))
-
-  pub cell_end : (bits : List ℕ) (h : Header) (i cell : ℕ) → length bits ≤ i → cell ≡ cell_of k (take i bits) h → (cell ≡ cell_of k bits h) × (cell < 2 ^ length bits)
-  cell_end bits h i cell le so_far =
-      let is : cell ≡ cell_of k bits h = so_far ∙ ap (λ bs. cell_of k bs h) (take_all i bits le) in
-      (is, omega (arith, cell_of_below bits h))
+  -- the number so far is one of a cell too
+  pub cell_few : (bits left : List ℕ) (h : Header) (cell : ℕ) → length bits ≤ 12 → cell * 2 ^ length left + cell_of k left h ≡ cell_of k bits h → cell < 4096
+  cell_few bits left h cell few so_far =
+      let most : 2 ^ length bits ≤ 4096 = pow_mono {j = 12} few in
+      let weight : 1 ≤ 2 ^ length left = pow_mono {i = 0} {j = length left} (omega arith) in
+      let part : cell * 1 ≤ cell * 2 ^ length left = mul-le-mul (omega arith) weight in
+      omega (arith, cell_of_below bits h)
 
   -- the cell's own digits at the end of any number
   admits_under : Lawful k → (r : Rule) (h : Header) → k.matches r h ≡ true → (bits : List ℕ) (hi i : ℕ) → i ≡ hi * 2 ^ length bits + cell_of k bits h → admits_cell k r bits i ≡ true
@@ -76,11 +71,3 @@ module _ {Header Rule Row : Type 0} (k : Meaning Header Rule Row) where
 
   pub admits_own : Lawful k → (r : Rule) (h : Header) → k.matches r h ≡ true → (bits : List ℕ) → admits_cell k r bits (cell_of k bits h) ≡ true
   admits_own law r h m bits = admits_under law r h m bits 0 (cell_of k bits h) (omega arith)
-
-  -- a loop's step over the bits, for a rule: what one bit tells, and what those behind it tell
-  pub admits_more : (r : Rule) (bits : List ℕ) (i n cell b : ℕ) (t : Bool) → n ≡ length bits → i < n → b ≡ get_or bits i 0 → t ≡ k.admits r b (digit cell (n - 1 - i)) → admits_cell k r (drop i bits) cell ≡ (t && admits_cell k r (drop (i + 1) bits) cell)
-  admits_more r bits i n cell b t len lt at e =
-      let behind : length (drop (i + 1) bits) ≡ n - 1 - i = omega (arith, length-drop (i + 1) bits) in
-      at_drop_more (λ bs. admits_cell k r bs cell) bits i 0 (omega arith)
-      ∙ ap (λ (d : ℕ). k.admits r (get_or bits i 0) (digit cell d) && admits_cell k r (drop (i + 1) bits) cell) behind
-      ∙ ap (λ (x : Bool). x && admits_cell k r (drop (i + 1) bits) cell) (sym (e ∙ ap (λ (x : ℕ). k.admits r x (digit cell (n - 1 - i))) at))

@@ -1,4 +1,4 @@
 pub mod Cells
 pub mod Changes
-pub mod Fronts
+pub mod Plans
 pub mod Sizes

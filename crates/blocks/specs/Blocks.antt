@@ -1,6 +1,5 @@
 -- Blocks: which lines may match in each cell.
 --     block         the block of a cell: in rising order, every filled line whose rule admits the cell
---     block_below   the part of it that names lines below one
 --     sizes         the lengths of all blocks, in cell order
 --     table_size    the places that a table takes: a start for each cell, one for the end, and the entries
 --     Fits          a table fits an area of so many places
@@ -19,9 +18,6 @@ module _ {Header Rule Row : Type 0} (k : Meaning Header Rule Row) where
   module _ (rules : List (Option Rule)) (bits : List ℕ) where
     abbrev pub block : ℕ → List ℕ
     block cell = filter (λ line. admits_line (slice_index_or rules line None) bits cell) (range_with_len 0 (length rules))
-
-    abbrev pub block_below : ℕ → ℕ → List ℕ
-    block_below cell line = filter (λ l. admits_line (slice_index_or rules l None) bits cell) (take line (range_with_len 0 (length rules)))
 
     abbrev pub blocks : List (List ℕ)
     blocks = map block (range_with_len 0 (2 ^ length bits))

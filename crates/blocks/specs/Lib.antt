@@ -1,4 +1,6 @@
 pub mod Cells
 pub mod Blocks
 pub mod Changes
+pub mod Plans
+pub mod Tallies
 pub mod Counts

@@ -1,7 +1,6 @@
 // A header's cell, and whether a line belongs to a cell's block.
 ghost use Rattle.std.specs.Prelude.{◌≡◌, ◌^◌, ◌<◌, length};
 ghost use Rattle.kinds.specs.Lines.{rule_of};
-ghost use Rattle.bits.specs.Chosen.{bits_of};
 ghost use Rattle.blocks.specs.Cells.{cell_of, admits_cell};
 ghost use Rattle.blocks.specs.Blocks.{admits_line};
 
@@ -10,24 +9,24 @@ use kinds::{Kind, Line};
 
 // The number made of a header's values at the bits, the first bit most significant.
 pub fn cell_of<K: Kind>(bits: &Bits, header: &K::Header) -> usize
-    ensures answer { result ≡ cell_of K.meaning (bits_of bits.now) header.now }
-    ensures bound { result < 2 ^ length (bits_of bits.now) }
+    ensures answer { result ≡ cell_of K.meaning bits.now header.now }
+    ensures bound { result < 2 ^ length bits.now }
 {
     let mut cell: usize = 0;
-    for place in 0..bits.len() {
-        cell = 2 * cell + K::bit(header, bits.at(place)) as usize;
+    for bit in bits {
+        cell = 2 * cell + usize::from(K::bit(header, bit));
     }
     cell
 }
 
 // Whether a rule admits a cell's value at each bit.
 fn admits_cell<K: Kind>(rule: &K::Rule, bits: &Bits, cell: usize) -> bool
-    ensures { result ≡ admits_cell K.meaning rule.now (bits_of bits.now) cell }
+    ensures { result ≡ admits_cell K.meaning rule.now bits.now cell }
 {
-    let len = bits.len();
-    for place in 0..len {
-        let value = (cell >> (len - 1 - place)) % 2 == 1;
-        if !K::admits(rule, bits.at(place), value) {
+    let mut behind = bits.len();
+    for bit in bits {
+        behind -= 1;
+        if !K::admits(rule, bit, (cell >> behind) % 2 == 1) {
             return false;
         }
     }
@@ -36,10 +35,7 @@ fn admits_cell<K: Kind>(rule: &K::Rule, bits: &Bits, cell: usize) -> bool
 
 // Whether a line is filled and its rule admits a cell.
 pub fn admits<K: Kind>(line: &Line<K::Row>, bits: &Bits, cell: usize) -> bool
-    ensures { result ≡ admits_line K.meaning (rule_of K.meaning line.now) (bits_of bits.now) cell }
+    ensures { result ≡ admits_line K.meaning (rule_of K.meaning line.now) bits.now cell }
 {
-    match kinds::rule_of::<K>(line) {
-        Some(rule) => admits_cell::<K>(&rule, bits, cell),
-        None => false,
-    }
+    kinds::rule_of::<K>(line).is_some_and(|rule| admits_cell::<K>(&rule, bits, cell))
 }

@@ -1,9 +1,9 @@
 // A change of one line that is looked at before it is made.
 use kinds::Line;
 
-// Lines as they stand, or as they would stand with one of them replaced.
-#[derive(Drop)]
-pub enum Change<R> {
-    Same,
-    At(usize, Line<R>),
+// The line that is to stand at a place.
+#[derive(Clone, Copy, Debug, PartialEq, Eq)]
+pub struct Change<R> {
+    pub place: usize,
+    pub line: Line<R>,
 }

@@ -5,11 +5,13 @@ mod cell;
 mod change;
 mod clear;
 mod count;
+mod plan;
 mod refusal;
 mod tally;
 
 pub use cell::{admits, cell_of};
 pub use change::Change;
 pub use clear::clear_from;
+pub use plan::Plan;
 pub use refusal::{Refusal, ready};
 pub use tally::Tally;

@@ -1,15 +1,15 @@
 // Why a table is not counted or not laid.
-ghost use Rattle.std.specs.Prelude.{◌≡◌, length};
+ghost use Rattle.std.specs.Prelude.{◌≡◌, length, Some};
 ghost use Rattle.kinds.specs.Checks.{checked};
-ghost use Rattle.bits.specs.Chosen.{bits_of};
 ghost use Rattle.blocks.specs.Counts.{length_checks};
 
 use bits::Bits;
+use std::fmt;
 
 // The most lines that a table is made of.
 const MOST_LINES: usize = 16384;
 
-#[derive(Clone, Copy)]
+#[derive(Clone, Copy, Debug, PartialEq, Eq)]
 pub enum Refusal {
     // More than 16,384 lines.
     TooManyLines,
@@ -19,9 +19,23 @@ pub enum Refusal {
     NoRoom,
 }
 
+impl fmt::Display for Refusal {
+    ghost use Rattle.blocks.specs.Counts.{refusal_text};
+
+    ghost output = { λ refusal. Some (refusal_text refusal) };
+
+    fn fmt<W: fmt::Write>(&self, f: &mut fmt::Formatter<W>) -> fmt::Result {
+        f.write_str(match self {
+            Refusal::TooManyLines => "there are too many lines",
+            Refusal::ShortTally => "the tally is too short",
+            Refusal::NoRoom => "the area is too small",
+        })
+    }
+}
+
 // What is checked before anything is counted: how many lines there are, and how long the tally is.
 pub fn ready(lines: usize, bits: &Bits, tally: usize) -> Result<(), Refusal>
-    ensures { result ≡ checked (length_checks lines (length (bits_of bits.now)) tally) tt }
+    ensures { result ≡ checked (length_checks lines (length bits.now) tally) tt }
 {
     if lines > MOST_LINES {
         return Err(Refusal::TooManyLines);

@@ -2,14 +2,16 @@
 ghost use Rattle.std.specs.Prelude.{◌≡◌, ◌^◌, ◌≤◌, true, length, take, replicate, is_ok};
 ghost use Rattle.kinds.specs.Checks.{checked};
 ghost use Rattle.kinds.specs.Lines.{rules_of};
-ghost use Rattle.bits.specs.Chosen.{bits_of};
 ghost use Rattle.blocks.specs.Blocks.{sizes, table_size};
 ghost use Rattle.blocks.specs.Changes.{changed};
 ghost use Rattle.blocks.specs.Counts.{count_checks};
+ghost use Rattle.blocks.specs.Plans.{rules_in};
+ghost use Rattle.blocks.specs.Tallies.{SameCells};
 
 use super::change::Change;
 use super::clear::clear_from;
 use super::count::{block_size, total};
+use super::plan::Plan;
 use super::refusal::{Refusal, ready};
 use bits::Bits;
 use judges::Judge;
@@ -40,64 +42,60 @@ impl<'a> Tally<'a> {
 }
 
 impl Tally<'_> {
-    // Counts the block sizes of lines, which may have one of them changed, for a set of bits.
-    fn count<K: Kind>(&mut self, lines: &[Line<K::Row>], change: &Change<K::Row>, bits: &Bits)
-        requires few { length lines.now ≤ 16384 }
-        requires long { 2 ^ length (bits_of bits.now) ≤ length self.old.cells.now }
-        ensures counted { take (2 ^ length (bits_of bits.now)) self.new.cells.now ≡ sizes K.meaning (rules_of K.meaning (changed change.now lines.now)) (bits_of bits.now) }
-        ensures len { length self.new.cells.now ≡ length self.old.cells.now }
-        ensures same { self.new.cells.ghost_name ≡ self.old.cells.ghost_name }
+    // Counts the block sizes of a plan.
+    fn count<K: Kind>(&mut self, plan: &Plan<K::Row>)
+        requires { 2 ^ length plan.now.bits.now ≤ length self.old.cells.now }
+        ensures counted { take (2 ^ length plan.now.bits.now) self.new.cells.now ≡ sizes K.meaning (rules_in K.meaning plan.now) plan.now.bits.now }
+        ensures kept { SameCells self.old self.new }
     {
-        for cell in 0..bits.cells() {
-            self.cells[cell] = block_size::<K>(lines, change, bits, cell);
+        for cell in 0..plan.bits.cells() {
+            self.cells[cell] = block_size::<K>(plan, cell);
         }
     }
 
     // The numbers of the cells of a set of bits, as far as the tally reaches.
     pub fn sizes(&self, bits: &Bits) -> &[u32]
-        ensures { result.now ≡ take (2 ^ length (bits_of bits.now)) self.now.cells.now }
+        ensures sizes { result.now ≡ take (2 ^ length bits.now) self.now.cells.now }
+        ensures few { length result.now ≤ 4096 }
     {
         let cells = bits.cells();
         if cells < self.cells.len() {
-            &self.cells[0..cells]
+            &self.cells[..cells]
         } else {
             self.cells
         }
     }
 
     // Counts, and tells how many places the table takes.
-    fn table_size<K: Kind>(
-        &mut self,
-        lines: &[Line<K::Row>],
-        change: &Change<K::Row>,
-        bits: &Bits,
-    ) -> usize
-        requires few { length lines.now ≤ 16384 }
-        requires long { 2 ^ length (bits_of bits.now) ≤ length self.old.cells.now }
-        ensures answer { result ≡ table_size K.meaning (rules_of K.meaning (changed change.now lines.now)) (bits_of bits.now) }
-        ensures counted { take (2 ^ length (bits_of bits.now)) self.new.cells.now ≡ sizes K.meaning (rules_of K.meaning (changed change.now lines.now)) (bits_of bits.now) }
-        ensures len { length self.new.cells.now ≡ length self.old.cells.now }
-        ensures same { self.new.cells.ghost_name ≡ self.old.cells.ghost_name }
+    fn table_size<K: Kind>(&mut self, plan: &Plan<K::Row>) -> usize
+        requires { 2 ^ length plan.now.bits.now ≤ length self.old.cells.now }
+        ensures answer { result ≡ table_size K.meaning (rules_in K.meaning plan.now) plan.now.bits.now }
+        ensures counted { take (2 ^ length plan.now.bits.now) self.new.cells.now ≡ sizes K.meaning (rules_in K.meaning plan.now) plan.now.bits.now }
+        ensures kept { SameCells self.old self.new }
     {
-        self.count::<K>(lines, change, bits);
-        bits.cells() + 1 + total(self.sizes(bits))
+        self.count::<K>(plan);
+        plan.bits.cells() + 1 + total(self.sizes(plan.bits))
     }
 
     // Whether the table of some lines, which may have one of them changed, fits so many places.
     pub fn fits<K: Kind>(
         &mut self,
         lines: &[Line<K::Row>],
-        change: &Change<K::Row>,
+        change: Option<Change<K::Row>>,
         bits: &Bits,
         room: usize,
     ) -> Result<(), Refusal>
-        ensures answer { result ≡ checked (count_checks (length lines.now) (length (bits_of bits.now)) (length self.old.cells.now) (table_size K.meaning (rules_of K.meaning (changed change.now lines.now)) (bits_of bits.now)) room) tt }
-        ensures counted { is_ok result ≡ true → take (2 ^ length (bits_of bits.now)) self.new.cells.now ≡ sizes K.meaning (rules_of K.meaning (changed change.now lines.now)) (bits_of bits.now) }
-        ensures len { length self.new.cells.now ≡ length self.old.cells.now }
-        ensures same { self.new.cells.ghost_name ≡ self.old.cells.ghost_name }
+        ensures answer { result ≡ checked (count_checks (length lines.now) (length bits.now) (length self.old.cells.now) (table_size K.meaning (rules_of K.meaning (changed change lines.now)) bits.now) room) tt }
+        ensures counted { is_ok result ≡ true → take (2 ^ length bits.now) self.new.cells.now ≡ sizes K.meaning (rules_of K.meaning (changed change lines.now)) bits.now }
+        ensures kept { SameCells self.old self.new }
     {
         ready(lines.len(), bits, self.cells.len())?;
-        if self.table_size::<K>(lines, change, bits) > room {
+        let plan = Plan {
+            lines,
+            change,
+            bits,
+        };
+        if self.table_size::<K>(&plan) > room {
             return Err(Refusal::NoRoom);
         }
         Ok(())
@@ -111,11 +109,10 @@ impl Tally<'_> {
         room: usize,
         judge: &J,
     ) -> Result<u64, Refusal>
-        ensures answer { result ≡ checked (count_checks (length lines.now) (length (bits_of bits.now)) (length self.old.cells.now) (table_size K.meaning (rules_of K.meaning lines.now) (bits_of bits.now)) room) (J.cost judge.now (sizes K.meaning (rules_of K.meaning lines.now) (bits_of bits.now))) }
-        ensures len { length self.new.cells.now ≡ length self.old.cells.now }
-        ensures same { self.new.cells.ghost_name ≡ self.old.cells.ghost_name }
+        ensures answer { result ≡ checked (count_checks (length lines.now) (length bits.now) (length self.old.cells.now) (table_size K.meaning (rules_of K.meaning lines.now) bits.now) room) (J.cost judge.now (sizes K.meaning (rules_of K.meaning lines.now) bits.now)) }
+        ensures kept { SameCells self.old self.new }
     {
-        self.fits::<K>(lines, &Change::Same, bits, room)?;
+        self.fits::<K>(lines, None, bits, room)?;
         Ok(judge.cost_of(self.sizes(bits)))
     }
 }

@@ -1,12 +1,11 @@
 // The judge by the largest block.
-ghost use Rattle.std.specs.Prelude.{◌≡◌, max};
 ghost use Rattle.judges.specs.Costs.{largest};
 ghost use Rattle.judges.specs.CostsLemmas.{largest_fits};
 
 use super::judge::Judge;
 
 // Tells the largest size, or 0 where there is none.
-#[derive(Clone, Copy)]
+#[derive(Clone, Copy, Debug, PartialEq, Eq)]
 pub struct Largest;
 
 impl Judge for Largest {
@@ -15,17 +14,8 @@ impl Judge for Largest {
     ghost below = { λ _ sizes low. largest_fits sizes low };
 
     fn cost_of(&self, sizes: &[u32]) -> u64 {
-        let mut most: u64 = 0;
-        for size in sizes {
-            most = larger(most, *size);
-        }
-        most
+        sizes
+            .iter()
+            .fold(0, |most, size| most.max(u64::from(*size)))
     }
-}
-
-// The larger of two sizes.
-fn larger(most: u64, size: u32) -> u64
-    ensures { result ≡ max most size }
-{
-    most.max(u64::from(size))
 }

@@ -9,7 +9,7 @@ use super::judge::Judge;
 const CAP: u64 = 0x7fff_ffff_ffff_ffff;
 
 // Tells the sum of the squares of the sizes, or 2^63 - 1 where that is larger.
-#[derive(Clone, Copy)]
+#[derive(Clone, Copy, Debug, PartialEq, Eq)]
 pub struct Squares;
 
 impl Judge for Squares {

@@ -1,4 +1,3 @@
-pub mod Lines
 mod Lowest
 pub mod Masks
 pub mod Rows

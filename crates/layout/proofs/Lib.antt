@@ -1,6 +1,7 @@
 pub mod Starts
 pub mod Joined
 pub mod Laid
+mod Areas
 mod Writes
 mod Tries
 mod Walk

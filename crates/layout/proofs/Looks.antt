@@ -1,5 +1,5 @@
 -- Looking into a laid area: the header's block is found there, and its walk answers the lowest line.
-use Rattle.std.proofs.Common.{◌≡◌, ℕ, ◌+◌, ◌-◌, ◌^◌, ◌<◌, cond, ltb, List, length, get_or, take, drop, Ok, Err, Option, Result, sym, ap, ◌∙◌, subst, ap₂, arith, Bor}
+use Rattle.std.proofs.Common.{◌≡◌, ℕ, ◌+◌, ◌-◌, ◌^◌, ◌<◌, cond, ltb, List, length, get_or, take, drop, Ok, Err, Option, Result, sym, ap, ◌∙◌, subst, ap₂, arith}
 use Rattle.std.proofs.lemmas.Bool.{cond-false, le-ltb}
 use Rattle.kinds.specs.Meaning.{Meaning, Lawful}
 use Rattle.kinds.specs.Checks.{◌and_then◌}
@@ -7,7 +7,7 @@ use Rattle.blocks.specs.Cells.{cell_of}
 use Rattle.blocks.specs.Blocks.{block}
 use Rattle.blocks.proofs.Cells.{cell_of_below}
 use Rattle.layout.specs.Layout.{laid}
-use Rattle.layout.specs.LookUp.{block_in, Hands, walked, looked_up, FindsLowest}
+use Rattle.layout.specs.LookUp.{block_in, walked, looked_up, FindsLowest}
 use Rattle.layout.specs.declared.spoilt.Spoilt.{Spoilt}
 use Rattle.layout.specs.declared.spoilt.Spoilt.TheVariants.{Bounds}
 use Rattle.layout.proofs.Laid.{start, laid_fits, laid_start, laid_part, laid_bounds}
@@ -30,8 +30,12 @@ module _ {Header Rule Row : Type 0} (k : Meaning Header Rule Row) (rules : List 
       ∙ cond-false (ltb (length area) (base + to)) (Err Bounds) (Ok part) (le-ltb (length area) (base + to) (omega arith))
       ∙ ap (λ (es : List ℕ). Ok es) part_is
 
-  pub block_handed : (r : Result (Bor (List ℕ)) Spoilt) → Hands (block_in (length bits) area (cell_of k bits h)) r → Hands (Ok (block k rules bits (cell_of k bits h))) r
-  block_handed r hands = subst (λ (x : Result (List ℕ) Spoilt). Hands x r) block_found hands
+  -- so what it is found to be is the block, and it is never bad
+  pub block_is : (part : List ℕ) → block_in (length bits) area (cell_of k bits h) ≡ Ok part → part ≡ block k rules bits (cell_of k bits h)
+  block_is part is = cc block_found
+
+  pub never_bad : (spoilt : Spoilt) → block_in (length bits) area (cell_of k bits h) ≡ Err spoilt → ⊥
+  never_bad spoilt is = cc block_found
 
   pub finds_lowest : Lawful k → (answer : Result (Option ℕ × ℕ) Spoilt) → answer ≡ looked_up k rules bits h area → FindsLowest k rules bits h answer
   finds_lowest law answer is =

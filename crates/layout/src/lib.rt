@@ -4,6 +4,7 @@
 mod laying;
 mod looking;
 mod spoilt;
+mod writer;
 
 pub use laying::lay;
 pub use looking::{block, look_up};

@@ -1,7 +1,6 @@
 // Looking into an area of any content: a header's block, and the walk through it.
 ghost use Rattle.std.specs.Prelude.{◌≡◌, List, length, None, Ok, Option, slice_index_or};
 ghost use Rattle.kinds.specs.Lines.{rules_of};
-ghost use Rattle.bits.specs.Chosen.{bits_of};
 ghost use Rattle.blocks.specs.Cells.{cell_of};
 ghost use Rattle.blocks.specs.Blocks.{block as block_of};
 ghost use Rattle.layout.specs.Layout.{laid};
@@ -11,13 +10,14 @@ use super::spoilt::Spoilt;
 use bits::Bits;
 use kinds::{Kind, Line};
 
-// The entries that the starts give to a header's cell.
-fn entries_of<'a, K: Kind>(
+// The block of a header as a part of the area itself: the entries that the starts give to its cell.
+pub fn block<'a, K: Kind>(
     bits: &Bits,
     area: &'a [u32],
     header: &K::Header,
 ) -> Result<&'a [u32], Spoilt>
-    ensures { Hands (block_in (length (bits_of bits.now)) area.now (cell_of K.meaning (bits_of bits.now) header.now)) result }
+    ensures answer { Hands (block_in (length bits.now) area.now (cell_of K.meaning bits.now header.now)) result }
+    ensures facts { (rules : List (Option _)) → area.now ≡ laid K.meaning rules bits.now (length area.now) → Hands (Ok (block_of K.meaning rules bits.now (cell_of K.meaning bits.now header.now))) result }
 {
     let base = bits.cells() + 1;
     if area.len() < base {
@@ -36,11 +36,7 @@ fn entries_of<'a, K: Kind>(
 fn rule_at<K: Kind>(lines: &[Line<K::Row>], entry: usize) -> Option<K::Rule>
     ensures { result ≡ slice_index_or (rules_of K.meaning lines.now) entry None }
 {
-    if entry < lines.len() {
-        kinds::rule_of::<K>(&lines[entry])
-    } else {
-        None
-    }
+    lines.get(entry).and_then(|line| kinds::rule_of::<K>(line))
 }
 
 // The first entry whose line matches, or none, and how many were tried.
@@ -51,41 +47,14 @@ fn walk<K: Kind>(
 ) -> Result<(Option<usize>, usize), Spoilt>
     ensures { result ≡ walked K.meaning (rules_of K.meaning lines.now) header.now 0 entries.now }
 {
-    for i in 0..entries.len() {
-        let line = entries[i] as usize;
-        let Some(rule) = rule_at::<K>(lines, line) else {
-            return Err(Spoilt::Entry);
-        };
+    for (before, entry) in entries.iter().enumerate() {
+        let line = *entry as usize;
+        let rule = rule_at::<K>(lines, line).ok_or(Spoilt::Entry)?;
         if K::matches(&rule, header) {
-            return Ok((Some(line), i + 1));
+            return Ok((Some(line), before + 1));
         }
     }
     Ok((None, entries.len()))
-}
-
-// What trying a header's entries in order answers.
-fn try_block<K: Kind>(
-    lines: &[Line<K::Row>],
-    bits: &Bits,
-    area: &[u32],
-    header: &K::Header,
-) -> Result<(Option<usize>, usize), Spoilt>
-    ensures { result ≡ looked_up K.meaning (rules_of K.meaning lines.now) (bits_of bits.now) header.now area.now }
-{
-    let entries = entries_of::<K>(bits, area, header)?;
-    walk::<K>(lines, entries, header)
-}
-
-// The block of a header as a part of the area itself.
-pub fn block<'a, K: Kind>(
-    bits: &Bits,
-    area: &'a [u32],
-    header: &K::Header,
-) -> Result<&'a [u32], Spoilt>
-    ensures answer { Hands (block_in (length (bits_of bits.now)) area.now (cell_of K.meaning (bits_of bits.now) header.now)) result }
-    ensures facts { (rules : List (Option _)) → area.now ≡ laid K.meaning rules (bits_of bits.now) (length area.now) → Hands (Ok (block_of K.meaning rules (bits_of bits.now) (cell_of K.meaning (bits_of bits.now) header.now))) result }
-{
-    entries_of::<K>(bits, area, header)
 }
 
 // The line that answers a header, or none, and how many entries were tried.
@@ -95,9 +64,10 @@ pub fn look_up<K: Kind>(
     area: &[u32],
     header: &K::Header,
 ) -> Result<(Option<usize>, usize), Spoilt>
-    ensures answer { result ≡ looked_up K.meaning (rules_of K.meaning lines.now) (bits_of bits.now) header.now area.now }
-    ensures walk { Looks K.meaning (rules_of K.meaning lines.now) header.now (block_in (length (bits_of bits.now)) area.now (cell_of K.meaning (bits_of bits.now) header.now)) result }
-    ensures facts { area.now ≡ laid K.meaning (rules_of K.meaning lines.now) (bits_of bits.now) (length area.now) → FindsLowest K.meaning (rules_of K.meaning lines.now) (bits_of bits.now) header.now result }
+    ensures answer { result ≡ looked_up K.meaning (rules_of K.meaning lines.now) bits.now header.now area.now }
+    ensures walk { Looks K.meaning (rules_of K.meaning lines.now) header.now (block_in (length bits.now) area.now (cell_of K.meaning bits.now header.now)) result }
+    ensures facts { area.now ≡ laid K.meaning (rules_of K.meaning lines.now) bits.now (length area.now) → FindsLowest K.meaning (rules_of K.meaning lines.now) bits.now header.now result }
 {
-    try_block::<K>(lines, bits, area, header)
+    let entries = block::<K>(bits, area, header)?;
+    walk::<K>(lines, entries, header)
 }

@@ -16,7 +16,7 @@ fn beginning(first: u8) -> Octets
     ensures { result ≡ beginning_with first }
 {
     Octets {
-        first: (first as u64) << 56,
+        first: u64::from(first) << 56,
         middle: 0,
         last: 0,
     }

@@ -9,11 +9,7 @@ pub(crate) fn pair(first: usize, second: usize) -> Option<Bits> {
 
 // The bits from 0 to 11.
 fn twelve() -> Option<Bits> {
-    let mut bits = Bits::none();
-    for bit in 0..12 {
-        bits = bits.with(bit)?;
-    }
-    Some(bits)
+    (0..12).try_fold(Bits::none(), |bits, bit| bits.with(bit))
 }
 
 #[test]

@@ -13,7 +13,7 @@ fn refuses_a_small_area(rt: HostRuntime) -> Result<(), Fail> {
     let mut area = [7u32; 16];
     let mut tally = [5u32; 6];
     let laid = layout::lay::<Bridge>(&seven_lines::lines(), &bits, &mut area, &mut tally);
-    assert!(rt; matches!(laid, Err(Refusal::NoRoom)));
+    assert_eq!(rt; laid, Err(Refusal::NoRoom));
     assert_eq!(rt; area, [7u32; 16]);
     assert_eq!(rt; tally, [0u32; 6]);
     Ok(())
@@ -27,7 +27,7 @@ fn refuses_a_short_tally(rt: HostRuntime) -> Result<(), Fail> {
     let mut area = [7u32; 17];
     let mut tally = [5u32; 3];
     let laid = layout::lay::<Bridge>(&seven_lines::lines(), &bits, &mut area, &mut tally);
-    assert!(rt; matches!(laid, Err(Refusal::ShortTally)));
+    assert_eq!(rt; laid, Err(Refusal::ShortTally));
     assert_eq!(rt; area, [7u32; 17]);
     assert_eq!(rt; tally, [5u32; 3]);
     Ok(())
@@ -35,12 +35,10 @@ fn refuses_a_short_tally(rt: HostRuntime) -> Result<(), Fail> {
 
 #[test]
 fn refuses_many_lines(rt: HostRuntime) {
-    assert!(rt; blocks::ready(16384, &Bits::none(), 1).is_ok());
-    assert!(rt;
-        matches!(
-            blocks::ready(16385, &Bits::none(), 0),
-            Err(Refusal::TooManyLines)
-        )
+    assert_eq!(rt; blocks::ready(16384, &Bits::none(), 1), Ok(()));
+    assert_eq!(rt;
+        blocks::ready(16385, &Bits::none(), 0),
+        Err(Refusal::TooManyLines)
     );
 }
 
@@ -52,7 +50,7 @@ fn lays_into_used_memory(rt: HostRuntime) -> Result<(), Fail> {
     let mut area = [9u32; 20];
     let mut tally = [9u32; 5];
     let laid = layout::lay::<Bridge>(&seven_lines::lines(), &bits, &mut area, &mut tally);
-    assert!(rt; laid.is_ok());
+    assert_eq!(rt; laid, Ok(()));
     assert_eq!(rt;
         area,
         [
@@ -72,6 +70,6 @@ fn lays_filled_lines_alone(rt: HostRuntime) {
     let mut area = [9u32; 8];
     let mut tally = [0u32; 1];
     let laid = layout::lay::<Bridge>(&lines, &Bits::none(), &mut area, &mut tally);
-    assert!(rt; laid.is_ok());
+    assert_eq!(rt; laid, Ok(()));
     assert_eq!(rt; area, [0u32, 5, 0, 1, 2, 4, 5, 0]);
 }

@@ -3,7 +3,6 @@ ghost use Rattle.std.specs.Prelude.{◌≡◌, ◌<◌, [], ◌∷◌, length, r
 ghost use Rattle.kinds.specs.Lines.{rules_of};
 ghost use Rattle.bridge.specs.Frames.{header_of};
 ghost use Rattle.bridge.specs.Bridge.{bridge};
-ghost use Rattle.bits.specs.Chosen.{bits_of};
 ghost use Rattle.worked_table.specs.Lists.{AnswersFrom};
 
 use super::say;
@@ -11,7 +10,7 @@ use bits::Bits;
 use blocks::Tally;
 use bridge::{Bridge, Fault, Header, Row};
 use judges::{Judge, Largest, Squares};
-use kinds::Line;
+use kinds::{FaultCode, Line};
 use layout::Spoilt;
 use std::io;
 
@@ -31,7 +30,7 @@ fn frame(first: u8) -> [u8; 14]
 fn pair(first: usize, second: usize) -> Bits
     requires rising { first < second }
     requires below { second < 1024 }
-    ensures { bits_of result ≡ first ∷ second ∷ [] }
+    ensures { result ≡ first ∷ second ∷ [] }
 {
     Bits::none().with(first).unwrap().with(second).unwrap()
 }
@@ -43,10 +42,9 @@ fn answer(
     area: &[u32],
     frame: &[u8],
 ) -> Result<Result<(Option<usize>, usize), Spoilt>, Fault>
-    ensures { AnswersFrom bridge lines.now (bits_of bits.now) area.now (header_of frame.now) result }
+    ensures { AnswersFrom bridge lines.now bits.now area.now (header_of frame.now) result }
 {
-    let header = Header::read(frame)?;
-    Ok(layout::look_up::<Bridge>(lines, bits, area, &header))
+    Header::read(frame).map(|header| layout::look_up::<Bridge>(lines, bits, area, &header))
 }
 
 // Strikes a line: clears its mark, and leaves its row.
@@ -62,7 +60,7 @@ fn lay(rt: &HostRuntime, lines: &[Line<Row>], bits: &Bits, area: &mut [u32]) -> 
     let mut tally = [0u32; 4];
     match layout::lay::<Bridge>(lines, bits, area, &mut tally) {
         Ok(()) => Ok(()),
-        Err(refusal) => say::no_table(rt, refusal),
+        Err(refusal) => println!(rt; "  refused: {refusal}"),
     }
 }
 
@@ -74,7 +72,7 @@ fn say_table(rt: &HostRuntime, bits: &Bits, area: &[u32; ROOM]) -> io::Result<()
         print!(rt; "Block of frames beginning {first:02x}:")?;
         match layout::block::<Bridge>(bits, area, &seven_lines::header(first)) {
             Ok(entries) => say::numbers(rt, entries)?,
-            Err(spoilt) => say::spoilt(rt, spoilt)?,
+            Err(spoilt) => println!(rt; "  spoilt: {spoilt}")?,
         }
     }
     Ok(())
@@ -92,7 +90,7 @@ fn say_cost<J: Judge>(
     let cost = Tally::new(&mut tally).cost::<Bridge, J>(lines, bits, ROOM, judge);
     match cost {
         Ok(cost) => println!(rt; "  {cost} by {name}"),
-        Err(refusal) => say::no_table(rt, refusal),
+        Err(refusal) => println!(rt; "  refused: {refusal}"),
     }
 }
 
@@ -115,8 +113,8 @@ fn say_answer(
     println!(rt; "Frame beginning {first:02x}")?;
     match answer(lines, bits, area, &frame(first)) {
         Ok(Ok((line, tried))) => say::tried(rt, line, tried),
-        Ok(Err(spoilt)) => say::spoilt(rt, spoilt),
-        Err(fault) => say::refusal(rt, fault),
+        Ok(Err(spoilt)) => println!(rt; "  spoilt: {spoilt}"),
+        Err(fault) => println!(rt; "  refused {}", FaultCode::from(fault)),
     }
 }
 

@@ -1,7 +1,11 @@
-use Rattle.std.proofs.Common.{◌≡◌, ◌^◌, ◌<◌, take}
-use Rattle.bits.specs.Chosen.{bits_of}
+use Rattle.std.proofs.Common.{◌≡◌, ◌+◌, ◌*◌, ◌^◌, ◌≤◌, length}
 use Rattle.blocks.specs.Cells.{cell_of}
 use Rattle.blocks.proofs.cell.cell_of.Given as goal
 
-abbrev pub invariant-loop-place : goal.invariant-loop-place
-invariant-loop-place g l = (l.cell ≡ cell_of g.K.Kind.meaning (take l.place (bits_of l.bits)) l.header) × (l.cell < 2 ^ l.place)
+abbrev pub invariant-loop-bit : goal.invariant-loop-bit
+invariant-loop-bit g l = record {
+  can_next : (goal.iterator-loop-bit g).can_next l.bit-iterator;
+  is_finite : (goal.iterator-loop-bit g).is_finite l.bit-iterator;
+  few : length l.bits ≤ 12;
+  left : l.cell * 2 ^ length l.bit-iterator + cell_of g.K.Kind.meaning l.bit-iterator l.header ≡ cell_of g.K.Kind.meaning l.bits l.header;
+}

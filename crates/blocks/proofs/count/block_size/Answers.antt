@@ -1,25 +1,15 @@
-use Rattle.std.proofs.Common.{◌≡◌, ◌+◌, Bool, true, false, cond, length, sym, ◌∙◌, arith}
-use Rattle.kinds.specs.Lines.{rules_of}
-use Rattle.bits.specs.Chosen.{bits_of}
-use Rattle.blocks.specs.Blocks.{block_below}
-use Rattle.blocks.specs.Changes.{changed}
-use Rattle.blocks.proofs.Changes.{length-changed}
-use Rattle.blocks.proofs.Sizes.{size_step, size_end}
-use Rattle.blocks.proofs.count.block_size.Given as given
+use Rattle.std.proofs.Common.{rules, length, get_or, None, arith}
+use Rattle.std.proofs.lemmas.Iterator.{YieldsList-from_range}
+use Rattle.std.proofs.lemmas.Iterator.Consumers.{YieldsList-from_filter, count_from_yields_List}
+use Rattle.blocks.specs.Blocks.{admits_line}
+use Rattle.blocks.specs.Plans.{rules_in}
+use Rattle.blocks.proofs.Plans.{length-rules_in}
 use Rattle.blocks.proofs.count.block_size.Goals as goal
-use Rattle.blocks.proofs.count.block_size.Goals.{then-admits, else-admits}
-
--- one line more: the block grows where the line is in it
-turn : (g : given.Over) (c : goal.Joined-admits g) (t : Bool) → t ≡ c.admits.result → length (block_below g.K.Kind.meaning (rules_of g.K.Kind.meaning (changed c.args.change.now c.args.lines.now)) (bits_of c.args.bits.now) c.args.cell (c.loop-i.i + 1)) ≡ c.loop-i.size + cond t 1 0
-turn g c t e =
-    size_step g.K.Kind.meaning (changed c.args.change.now c.args.lines.now) (bits_of c.args.bits.now) c.args.cell c.loop-i.i c.loop-i.size c.line_at-line.result t (omega (arith, length-changed c.args.change.now c.args.lines.now)) c.line_at-line.ensures (e ∙ c.admits.ensures) c.loop-i.invariant.0
-
-pub loop-i-preserved : goal.loop-i-preserved
-loop-i-preserved g c = elim c.if-admits.branch [
-  | then-admits w ↦ (omega (arith, w.size-is, turn g c true (sym w.if-admits.true)), omega (arith, w.size-is))
-  | else-admits w ↦ (omega (arith, w.size-is, turn g c false (sym w.if-admits.false)), omega (arith, w.size-is))
-]
 
 pub returns : goal.returns
 returns g c =
-    size_end g.K.Kind.meaning (changed c.args.change.now c.args.lines.now) (bits_of c.args.bits.now) c.args.cell c.loop-i.i c.loop-i.size (omega (arith, length-changed c.args.change.now c.args.lines.now)) c.loop-i.invariant.0
+    let plan = c.args.plan.now in
+    let rules_of_plan = rules_in g.K.Kind.meaning plan in
+    let lines = YieldsList-from_range 0 (length plan.lines.now) (length rules_of_plan) c.filter.ensures.source (omega (arith, length-rules_in g.K.Kind.meaning plan)) in
+    count_from_yields_List c.filter.result c.count.result c.count.ensures.ran
+    (YieldsList-from_filter _ (λ line. admits_line g.K.Kind.meaning (get_or rules_of_plan line None) plan.bits.now c.args.cell) lines c.filter.ensures.closure (λ x r q k. search rules))

@@ -1,25 +1,24 @@
-use Rattle.std.proofs.Common.{◌+◌, arith}
-use Rattle.kinds.specs.Lines.{rules_of}
-use Rattle.bits.specs.Chosen.{bits_of}
-use Rattle.layout.proofs.Laid.{start_next, start_within}
-use Rattle.layout.proofs.Writes.{blocks_more, blocks_written}
+use Rattle.std.proofs.Common.{length, arith}
+use Rattle.blocks.specs.Plans.{rules_in}
+use Rattle.layout.specs.Writing.{written}
+use Rattle.layout.proofs.Areas.{same_behind}
+use Rattle.layout.proofs.Writes.{block_room, block_written, blocks_written}
 use Rattle.layout.proofs.laying.write_blocks.Goals as goal
 
-pub write_block-next-requires : goal.write_block-next-requires
-write_block-next-requires g c =
-    let k = g.K.Kind.meaning in
-    let rules = rules_of k c.args.lines.now in
-    let bits = bits_of c.args.bits.now in
-    record {
-      few = c.requires.few;
-      room = omega (arith, start_next k rules bits c.loop-cell.cell (omega arith), start_within k rules bits (c.loop-cell.cell + 1), c.loop-cell.invariant.0);
-    }
+pub write_block-requires : goal.write_block-requires
+write_block-requires g c =
+    let plan = c.args.plan.now in
+    omega (arith, c.loop-cell.invariant.kept.len, block_room g.K.Kind.meaning (rules_in g.K.Kind.meaning plan) plan.bits.now c.loop-cell.cell (length c.args.out.now.area.now) (written c.args.out.now) (written c.loop-cell.out) c.loop-cell.invariant.entries (omega arith) c.requires)
 
 pub loop-cell-preserved : goal.loop-cell-preserved
 loop-cell-preserved g c =
-    blocks_more g.K.Kind.meaning (rules_of g.K.Kind.meaning c.args.lines.now) (bits_of c.args.bits.now) c.args.at c.loop-cell.next c.loop-cell.cell c.args.area.now c.loop-cell.area c.loop-cell.invariant.0 c.loop-cell.invariant.1 (omega arith) c.write_block-next.result c.write_block-next.new.area c.write_block-next.ensures.end c.write_block-next.ensures.entries
+    let plan = c.args.plan.now in
+    record {
+      entries = block_written g.K.Kind.meaning (rules_in g.K.Kind.meaning plan) plan.bits.now c.loop-cell.cell 0 (written c.args.out.now) (written c.loop-cell.out) c.loop-cell.invariant.entries (omega arith) (written c.write_block.new.out) c.write_block.ensures.entries;
+      kept = same_behind _ _ _ c.loop-cell.invariant.kept c.write_block.ensures.kept;
+    }
 
-pub returns : goal.returns
-returns g c =
-    let written = blocks_written g.K.Kind.meaning (rules_of g.K.Kind.meaning c.args.lines.now) (bits_of c.args.bits.now) c.args.at c.loop-cell.next c.loop-cell.cell c.args.area.now c.loop-cell.area c.loop-cell.invariant.0 c.loop-cell.invariant.1 (omega arith) in
-    record { end = written.0; entries = written.1 }
+pub returns-clause-entries : goal.returns-clause-entries
+returns-clause-entries g c =
+    let plan = c.args.plan.now in
+    blocks_written g.K.Kind.meaning (rules_in g.K.Kind.meaning plan) plan.bits.now c.loop-cell.cell (written c.args.out.now) (written c.loop-cell.out) (omega arith) c.loop-cell.invariant.entries

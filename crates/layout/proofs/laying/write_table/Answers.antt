@@ -1,37 +1,34 @@
-use Rattle.std.proofs.Common.{length, sum, ap, arith}
-use Rattle.std.proofs.lemmas.List.{length-map}
-use Rattle.kinds.specs.Lines.{rule_of, rules_of}
-use Rattle.bits.specs.Chosen.{bits_of}
-use Rattle.bits.proofs.Facts.{length_bits}
-use Rattle.blocks.proofs.Sizes.{length-sizes, entries_bound}
+use Rattle.std.proofs.Common.{rules, length, sum, refl, ap, ◌∙◌, arith}
+use Rattle.std.proofs.lemmas.List.{length-append}
+use Rattle.blocks.specs.Plans.{rules_in}
+use Rattle.blocks.proofs.Plans.{few_entries}
+use Rattle.blocks.proofs.Sizes.{length-sizes}
+use Rattle.layout.specs.Writing.{written}
+use Rattle.layout.specs.Layout.{starts_from}
+use Rattle.layout.proofs.Starts.{length_starts}
 use Rattle.layout.proofs.Writes.{all_written}
 use Rattle.layout.proofs.laying.write_table.Goals as goal
 
-pub write_starts-base-requires : goal.write_starts-base-requires
-write_starts-base-requires g c =
-    let k = g.K.Kind.meaning in
-    let lines = c.args.lines.now in
-    let bits = bits_of c.args.bits.now in
+pub write_starts-requires-clause-room : goal.write_starts-requires-clause-room
+write_starts-requires-clause-room g c =
+    let plan = c.args.plan.now in
+    omega (arith, ap length c.new-out.ensures.none, ap length c.new-out.ensures.holds, ap length c.requires.counted, length-sizes g.K.Kind.meaning (rules_in g.K.Kind.meaning plan) plan.bits.now)
+
+pub write_starts-requires-clause-few : goal.write_starts-requires-clause-few
+write_starts-requires-clause-few g c =
+    let plan = c.args.plan.now in
     let count = ap length c.requires.counted in
     let total = ap sum c.requires.counted in
-    let bound = entries_bound k (rules_of k lines) bits (length_bits c.args.bits.now) (omega (arith, length-map lines (rule_of k))) in
-    record { room = omega (arith, length-sizes k (rules_of k lines) bits); few = omega arith }
+    omega (arith, few_entries g.K.Kind.meaning plan (omega (arith, length-sizes g.K.Kind.meaning (rules_in g.K.Kind.meaning plan) plan.bits.now)))
 
-pub write_blocks-end-requires : goal.write_blocks-end-requires
-write_blocks-end-requires g c =
-    let k = g.K.Kind.meaning in
-    let rules = rules_of k c.args.lines.now in
-    let bits = bits_of c.args.bits.now in
-    let count = ap length c.requires.counted in
-    record { few = c.requires.few; room = omega (arith, length-sizes k rules bits) }
-
-pub clear_from-requires : goal.clear_from-requires
-clear_from-requires g c =
-    let k = g.K.Kind.meaning in
-    let count = ap length c.requires.counted in
-    omega (arith, length-sizes k (rules_of k c.args.lines.now) (bits_of c.args.bits.now))
+pub write_blocks-requires : goal.write_blocks-requires
+write_blocks-requires g c =
+    let plan = c.args.plan.now in
+    omega (arith, ap length c.new-out.ensures.none, ap length c.new-out.ensures.holds, ap length c.requires.counted, length-sizes g.K.Kind.meaning (rules_in g.K.Kind.meaning plan) plan.bits.now, ap length c.write_starts.ensures.starts, length-append (written c.new-out.result) (starts_from 0 c.args.sizes.now), length_starts 0 c.args.sizes.now, c.write_starts.ensures.kept.len)
 
 pub returns : goal.returns
 returns g c =
-    let k = g.K.Kind.meaning in
-    all_written k (rules_of k c.args.lines.now) (bits_of c.args.bits.now) c.args.sizes.now c.write_starts-base.new.area c.write_blocks-end.new.area c.clear_from.new.numbers c.write_starts-base.result c.write_blocks-end.result (length c.args.area.now) c.requires.counted c.write_starts-base.ensures.end c.write_starts-base.ensures.starts c.write_blocks-end.ensures.end c.write_blocks-end.ensures.entries (omega arith) c.clear_from.ensures
+    let plan = c.args.plan.now in
+    let long = c.write_blocks.ensures.kept.len ∙ c.write_starts.ensures.kept.len ∙ ap length c.new-out.ensures.holds in
+    let final = all_written g.K.Kind.meaning (rules_in g.K.Kind.meaning plan) plan.bits.now c.args.sizes.now (written c.new-out.result) (written c.write_starts.new.out) (written c.write_blocks.new.out) c.write_blocks.new.out.area.now _ c.write_blocks.new.out.at (length c.args.area.now) c.requires.counted c.new-out.ensures.none c.write_starts.ensures.starts c.write_blocks.ensures.entries refl long c.requires.room c.drop-out.ensures in
+    search (rules, final, c.write_starts.ensures.kept.name, c.write_blocks.ensures.kept.name)

@@ -1,18 +1,12 @@
-use Rattle.std.proofs.Common.{sym, ◌∙◌, arith, below_more}
-use Rattle.bits.specs.Chosen.{bits_of}
-use Rattle.bits.proofs.Facts.{length-bits_of}
-use Rattle.bits.proofs.Members.{member_none, member_at}
+use Rattle.std.proofs.Common.{eqb, rules, ◌∙◌}
+use Rattle.std.proofs.lemmas.Iterator.Consumers.{YieldsList-from_first}
+use Rattle.std.proofs.lemmas.Iterator.Search.{any_from_yields_List}
+use borrow.Author.Tests.{tests}
+use Rattle.bits.proofs.Members.{list_any-member}
 use Rattle.bits.proofs.set.Bits.has.Goals as goal
-
-pub returns-then-at-bit : goal.returns-then-at-bit
-returns-then-at-bit c =
-    let s = c.args.self.now in
-    sym (member_at c.args.bit (bits_of s) c.loop-place.place (omega (arith, length-bits_of s)) (sym c.at.ensures ∙ c.if-at-bit.true))
 
 pub returns : goal.returns
 returns c =
-    let s = c.args.self.now in
-    sym (member_none c.args.bit (bits_of s) (λ k lt e. c.loop-place.invariant k (omega (arith, length-bits_of s)) e))
-
-pub loop-place-preserved : goal.loop-place-preserved
-loop-place-preserved c = below_more _ _ c.loop-place.invariant (λ e. c.if-at-bit.false (c.at.ensures ∙ e))
+    let runs = YieldsList-from_first (λ bit. bit) (λ left. left) c.args.self.now c.iter.ensures.left in
+    any_from_yields_List (λ own. eqb own c.args.bit) _ _ _ c.any.ensures.ran runs (λ own found f called. search (rules, tests))
+    ∙ list_any-member c.args.bit c.args.self.now
