@@ -4,7 +4,7 @@
 --     with_bit      the set with one bit more, in its place
 --     without_bit   the set without one bit
 -- Assumes nothing.
-use Rattle.std.specs.Prelude.{ℕ, Bool, true, false, cond, ◌&&◌, List, [], ◌∷◌, ◌==◌, nat_lt}
+use Rattle.std.specs.Prelude.{ℕ, Bool, true, false, if◌then◌else◌, ◌&&◌, List, [], ◌∷◌, ◌==◌, nat_lt}
 
 -- whether a number lies below the first of a list, if there is one
 abbrev pub below_first : ℕ → List ℕ → Bool
@@ -19,14 +19,14 @@ rising (b ∷ bs) = below_first b bs && rising bs
 -- whether a bit is in a set
 abbrev pub member : ℕ → List ℕ → Bool
 member b [] = false
-member b (c ∷ cs) = cond (b == c) true (member b cs)
+member b (c ∷ cs) = if b == c then true else member b cs
 
 -- the set with one bit more, in its place
 abbrev pub with_bit : ℕ → List ℕ → List ℕ
 with_bit b [] = b ∷ []
-with_bit b (c ∷ cs) = cond (nat_lt b c) (b ∷ (c ∷ cs)) (c ∷ with_bit b cs)
+with_bit b (c ∷ cs) = if nat_lt b c then b ∷ c ∷ cs else c ∷ with_bit b cs
 
 -- the set without one bit
 abbrev pub without_bit : ℕ → List ℕ → List ℕ
 without_bit b [] = []
-without_bit b (c ∷ cs) = cond (b == c) cs (c ∷ without_bit b cs)
+without_bit b (c ∷ cs) = if b == c then cs else c ∷ without_bit b cs

@@ -5,26 +5,13 @@ use routed::{Fault, Routed, Row, Rule};
 use std::array;
 use std::test::Fail;
 
-const OPEN: Row = Row {
-    source: 0,
-    source_length: 0,
-    destination: 0,
-    destination_length: 0,
-    source_low: 0,
-    source_high: 65535,
-    destination_low: 0,
-    destination_high: 65535,
-    protocol: 0,
-    mask: 0,
-};
-
 fn prefixes(source: u32, source_length: u8, destination: u32, destination_length: u8) -> Row {
     Row {
         source,
         source_length,
         destination,
         destination_length,
-        ..OPEN
+        ..Row::ALL
     }
 }
 
@@ -34,7 +21,7 @@ fn ports(source_low: u16, source_high: u16, destination_low: u16, destination_hi
         source_high,
         destination_low,
         destination_high,
-        ..OPEN
+        ..Row::ALL
     }
 }
 
@@ -42,7 +29,7 @@ fn protocol(protocol: u8, mask: u8) -> Row {
     Row {
         protocol,
         mask,
-        ..OPEN
+        ..Row::ALL
     }
 }
 
@@ -153,7 +140,7 @@ fn admits_by_range(rt: HostRuntime) -> Result<(), Fail> {
 
 #[test]
 fn admits_zero_beyond_the_width(rt: HostRuntime) -> Result<(), Fail> {
-    let Ok(rule) = Rule::try_from(OPEN) else {
+    let Ok(rule) = Rule::try_from(Row::ALL) else {
         return Err(Fail::new("refused"));
     };
     assert_eq!(rt; Routed::width(), 104);

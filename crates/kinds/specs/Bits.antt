@@ -4,7 +4,7 @@
 --     mask_matches   number AND mask equals the value
 --     mask_admits    at a mask bit of 1 the value's bit alone, at 0 both
 -- Assumes nothing.
-use Rattle.std.specs.Prelude.{ℕ, ◌-◌, ◌/◌, ◌%◌, ◌^◌, Bool, true, cond, ◌==◌, bit_and}
+use Rattle.std.specs.Prelude.{ℕ, ◌-◌, ◌/◌, ◌%◌, ◌^◌, Bool, true, if◌then◌else◌, ◌==◌, bit_and}
 use Rattle.std.specs.Bool.{beq}
 
 abbrev pub digit : ℕ → ℕ → Bool
@@ -17,4 +17,4 @@ abbrev pub mask_matches : (value mask n : ℕ) → Bool
 mask_matches value mask n = bit_and n mask == value
 
 abbrev pub mask_admits : (width value mask b : ℕ) → Bool → Bool
-mask_admits width value mask b v = cond (bit_of width mask b) (beq v (bit_of width value b)) true
+mask_admits width value mask b v = if bit_of width mask b then beq v (bit_of width value b) else true

@@ -1,10 +1,10 @@
 -- Checks that are made in order, each with the fault that it finds. Assumes nothing.
-use Rattle.std.specs.Prelude.{Bool, cond, List, [], ◌∷◌, Ok, Err, Result}
+use Rattle.std.specs.Prelude.{Bool, if◌then◌else◌, List, [], ◌∷◌, Ok, Err, Result}
 
 -- the value where no check fails, else the fault of the first that does
 abbrev pub checked : {F A : Type 0} → List (Bool × F) → A → Result A F
 checked [] x = Ok x
-checked (check ∷ checks) x = cond check.0 (Err check.1) (checked checks x)
+checked (check ∷ checks) x = if check.0 then Err check.1 else checked checks x
 
 -- a value read after another one: the first fault wins
 infixr 20 ◌and_then◌

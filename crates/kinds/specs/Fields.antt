@@ -3,7 +3,7 @@
 --     kind_of       the meaning of the whole row: each bit belongs to one field, a rule matches in every field
 --     LawfulField   the law of a kind, for one field
 -- Assumes nothing.
-use Rattle.std.specs.Prelude.{◌≡◌, ℕ, ◌+◌, ◌-◌, ◌<◌, Bool, true, false, cond, not, ◌&&◌, List, [], ◌∷◌, Option, nat_lt}
+use Rattle.std.specs.Prelude.{◌≡◌, ℕ, ◌+◌, ◌-◌, ◌<◌, Bool, true, false, if◌then◌else◌, not, ◌&&◌, List, [], ◌∷◌, Option, nat_lt}
 use Rattle.kinds.specs.Meaning.{Meaning}
 use Rattle.kinds.specs.Bits.{bit_of}
 
@@ -21,7 +21,7 @@ module _ {Header Rule : Type 0} where
 
   abbrev pub bit_in : List (Field Header Rule) → Header → ℕ → Bool
   bit_in [] h b = false
-  bit_in (f ∷ fs) h b = cond (nat_lt b f.width) (bit_of f.width (f.number h) b) (bit_in fs h (b - f.width))
+  bit_in (f ∷ fs) h b = if nat_lt b f.width then bit_of f.width (f.number h) b else bit_in fs h (b - f.width)
 
   abbrev pub matches_in : List (Field Header Rule) → Rule → Header → Bool
   matches_in [] r h = true
@@ -29,7 +29,7 @@ module _ {Header Rule : Type 0} where
 
   abbrev pub admits_in : List (Field Header Rule) → Rule → ℕ → Bool → Bool
   admits_in [] r b v = not v
-  admits_in (f ∷ fs) r b v = cond (nat_lt b f.width) (f.admits r b v) (admits_in fs r (b - f.width) v)
+  admits_in (f ∷ fs) r b v = if nat_lt b f.width then f.admits r b v else admits_in fs r (b - f.width) v
 
   abbrev pub kind_of : {Row : Type 0} → List (Field Header Rule) → (Row → Option Rule) → Meaning Header Rule Row
   kind_of fs holds = record { width = width_of fs; bit = bit_in fs; matches = matches_in fs; admits = admits_in fs; holds = holds }

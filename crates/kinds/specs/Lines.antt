@@ -3,14 +3,14 @@
 --     Matches   a filled line whose rule matches a header
 --     Lowest    the lowest such line, or none exactly when there is none
 -- Assumes nothing.
-use Rattle.std.specs.Prelude.{◌≡◌, ℕ, ◌+◌, ◌≤◌, Bool, true, false, cond, List, map, Some, None, Option, slice_index_or}
+use Rattle.std.specs.Prelude.{◌≡◌, ℕ, ◌+◌, ◌≤◌, Bool, true, false, if◌then◌else◌, List, map, Some, None, Option, slice_index_or}
 use Rattle.kinds.specs.Meaning.{Meaning}
 use Rattle.kinds.specs.declared.line.Line.{Line}
 
 module _ {Header Rule Row : Type 0} (k : Meaning Header Rule Row) where
   -- a line is filled if it is marked and its row holds a rule, else it is empty
   abbrev pub rule_of : Line Row → Option Rule
-  rule_of line = cond line.mark (k.holds line.row) None
+  rule_of line = if line.mark then k.holds line.row else None
 
   abbrev pub rules_of : List (Line Row) → List (Option Rule)
   rules_of lines = map rule_of lines

@@ -7,7 +7,7 @@
 --     FindsLowest   what a look-up owes in a laid area
 --     spoilt_text   how a spoilt area is told in print
 -- Assumes nothing.
-use Rattle.std.specs.Prelude.{◌≡◌, ℕ, ◌+◌, ◌-◌, ◌^◌, ◌≤◌, false, cond, List, [], ◌∷◌, ◌++◌, length, take, drop, Some, None, Ok, Err, Option, Result, nat_lt, slice_index, slice_index_or, codes}
+use Rattle.std.specs.Prelude.{◌≡◌, ℕ, ◌+◌, ◌-◌, ◌^◌, ◌≤◌, false, if◌then◌else◌, List, [], ◌∷◌, ◌++◌, length, take, drop, Some, None, Ok, Err, Option, Result, nat_lt, slice_index, slice_index_or, codes}
 use Rattle.std.specs.Borrow.{Bor}
 use Rattle.std.specs.List.{AllByRecursion}
 use Rattle.kinds.specs.Meaning.{Meaning}
@@ -47,7 +47,7 @@ module _ {Header Rule Row : Type 0} (k : Meaning Header Rule Row) where
   -- one entry's own answer, or that of those behind it; an entry that names no filled line spoils the walk
   abbrev pub try_entry : Option Rule → Header → Option ℕ × ℕ → Result (Option ℕ × ℕ) Spoilt → Result (Option ℕ × ℕ) Spoilt
   try_entry None h hit behind = Err Entry
-  try_entry (Some r) h hit behind = cond (k.matches r h) (Ok hit) behind
+  try_entry (Some r) h hit behind = if k.matches r h then Ok hit else behind
 
   module _ (rules : List (Option Rule)) where
     -- with so many tried before

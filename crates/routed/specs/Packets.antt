@@ -1,6 +1,6 @@
 -- Reading a packet: where RFC 791 places version, header length, protocol and addresses, and the ports behind the header.
 -- Assumes nothing.
-use Rattle.std.specs.Prelude.{ℕ, ◌+◌, ◌*◌, ◌/◌, ◌%◌, Bool, cond, not, ◌&&◌, ◌||◌, List, [], ◌∷◌, length, Result, ◌==◌, nat_lt, slice_index}
+use Rattle.std.specs.Prelude.{ℕ, ◌+◌, ◌*◌, ◌/◌, ◌%◌, Bool, if◌then◌else◌, not, ◌&&◌, ◌||◌, List, [], ◌∷◌, length, Result, ◌==◌, nat_lt, slice_index}
 use Rattle.kinds.specs.Bytes.{big_endian}
 use Rattle.kinds.specs.Checks.{checked}
 use Rattle.routed.specs.declared.fault.Fault.{Fault}
@@ -24,7 +24,7 @@ module _ (packet : List ℕ) where
 
   -- a port, at its distance from the header's end; 0 where the protocol has none
   abbrev pub port_at : ℕ → ℕ
-  port_at distance = cond (has_ports protocol_in) (big_endian packet (header_length + distance) 2) 0
+  port_at distance = if has_ports protocol_in then big_endian packet (header_length + distance) 2 else 0
 
   -- the header of a packet, or why it has none
   abbrev pub header_of : Result Header Fault

@@ -3,7 +3,7 @@
 --     prefix_admits   the values that it admits at a bit
 --     prefix_of       the prefix that two numbers make, or what is wrong with them
 -- Assumes nothing.
-use Rattle.std.specs.Prelude.{◌≡◌, ℕ, ◌-◌, ◌/◌, ◌%◌, ◌^◌, ◌≤◌, Bool, true, cond, Ok, Err, Result, ◌==◌, nat_lt}
+use Rattle.std.specs.Prelude.{◌≡◌, ℕ, ◌-◌, ◌/◌, ◌%◌, ◌^◌, ◌≤◌, Bool, true, if◌then◌else◌, Ok, Err, Result, ◌==◌, nat_lt}
 use Rattle.std.specs.Bool.{beq}
 use Rattle.std.proofs.Math.Decide.{dec_le, ℕ_discrete}
 use Rattle.kinds.specs.Bits.{bit_of}
@@ -17,7 +17,7 @@ in_prefix p address = address / 2 ^ (32 - p.length) == p.address / 2 ^ (32 - p.l
 
 -- its own bit below its length, both values from there on
 abbrev pub prefix_admits : Prefix → ℕ → Bool → Bool
-prefix_admits p b v = cond (nat_lt b p.length) (beq v (bit_of 32 p.address b)) true
+prefix_admits p b v = if nat_lt b p.length then beq v (bit_of 32 p.address b) else true
 
 -- the prefix, or the first check that fails: the length, then a one past it
 abbrev pub prefix_if : (address length : ℕ) → Dec (length ≤ 32) → Dec (address % 2 ^ (32 - length) ≡ 0) → Result Prefix Defect

@@ -1,5 +1,5 @@
 // The routed kind as one of the table's kinds.
-ghost use Rattle.std.specs.Prelude.{◌≡◌, ◌-◌, ◌<◌, ◌≤◌, Decides};
+ghost use Rattle.std.specs.Prelude.{◌≡◌, ◌-◌, ◌<◌, ◌≤◌, ◌↔◌, IsTrue};
 ghost use Rattle.routed.specs.Ranges.{SomePort};
 ghost use Rattle.routed.specs.Routed.{routed};
 ghost use Rattle.routed.specs.Law.{routed_lawful};
@@ -46,8 +46,8 @@ impl Kind for Routed {
 
     fn admits(rule: &Rule, b: usize, value: bool) -> bool
         ensures answer { result ≡ routed.admits rule.now b value }
-        ensures source_exact { 64 ≤ b → b < 80 → Decides result (SomePort rule.now.source_ports (b - 64) value) }
-        ensures destination_exact { 80 ≤ b → b < 96 → Decides result (SomePort rule.now.destination_ports (b - 80) value) }
+        ensures source_exact { 64 ≤ b → b < 80 → IsTrue result ↔ SomePort rule.now.source_ports (b - 64) value }
+        ensures destination_exact { 80 ≤ b → b < 96 → IsTrue result ↔ SomePort rule.now.destination_ports (b - 80) value }
     {
         match b {
             0..=31 => rule.source.admits(b, value),

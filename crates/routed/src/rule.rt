@@ -32,6 +32,22 @@ pub struct Row {
     pub mask: u8,
 }
 
+impl Row {
+    // The numbers of the rule that matches every header.
+    pub const ALL: Row = Row {
+        source: 0,
+        source_length: 0,
+        destination: 0,
+        destination_length: 0,
+        source_low: 0,
+        source_high: 65535,
+        destination_low: 0,
+        destination_high: 65535,
+        protocol: 0,
+        mask: 0,
+    };
+}
+
 // The rule that a row holds, or the first field in bit order that is wrong and why.
 impl TryFrom<Row> for Rule {
     type Error = Fault;

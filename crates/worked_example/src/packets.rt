@@ -1,23 +1,9 @@
 // A small routed list that guards a print server, and packets that are answered by the first line that matches.
-use super::say::Dotted;
 use super::{list, samples, say};
 use kinds::Line;
 use routed::{Header, Routed, Row, Rule};
 use std::io;
-
-// Everything from everywhere to everywhere.
-const ALL: Row = Row {
-    source: 0,
-    source_length: 0,
-    destination: 0,
-    destination_length: 0,
-    source_low: 0,
-    source_high: 65535,
-    destination_low: 0,
-    destination_high: 65535,
-    protocol: 0,
-    mask: 0,
-};
+use std::net::Ipv4Addr;
 
 // Who may reach what. The last row is wrong: its address has ones past the prefix.
 const ROWS: [Row; 5] = [
@@ -30,7 +16,7 @@ const ROWS: [Row; 5] = [
         destination_high: 9102,
         protocol: 6,
         mask: 255,
-        ..ALL
+        ..Row::ALL
     },
     Row {
         destination: 0xc0a8_0714,
@@ -39,7 +25,7 @@ const ROWS: [Row; 5] = [
         destination_high: 631,
         protocol: 6,
         mask: 255,
-        ..ALL
+        ..Row::ALL
     },
     Row {
         source: 0x0a00_0000,
@@ -51,28 +37,28 @@ const ROWS: [Row; 5] = [
         destination_high: 53,
         protocol: 17,
         mask: 255,
-        ..ALL
+        ..Row::ALL
     },
     Row {
         source: 0x0a00_0000,
         source_length: 8,
         protocol: 1,
         mask: 255,
-        ..ALL
+        ..Row::ALL
     },
     Row {
         destination: 0xc0a8_0714,
         destination_length: 24,
-        ..ALL
+        ..Row::ALL
     },
 ];
 
 fn say_row(rt: &impl Print, row: &Row) -> io::Result<()> {
     println!(rt;
         "Row: {}/{} to {}/{}, ports {} to {}, protocol {} under mask {}",
-        Dotted(row.source),
+        Ipv4Addr::from(row.source),
         row.source_length,
-        Dotted(row.destination),
+        Ipv4Addr::from(row.destination),
         row.destination_length,
         row.destination_low,
         row.destination_high,
@@ -100,9 +86,9 @@ fn make_lines(rt: &HostRuntime) -> io::Result<Vec<Line<Row>>> {
 fn say_header(rt: &impl Print, header: &Header) -> io::Result<()> {
     println!(rt;
         "  from {} port {} to {} port {}, protocol {}",
-        Dotted(header.source),
+        Ipv4Addr::from(header.source),
         header.source_port,
-        Dotted(header.destination),
+        Ipv4Addr::from(header.destination),
         header.destination_port,
         header.protocol
     )

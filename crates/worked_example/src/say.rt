@@ -1,17 +1,6 @@
-// What the client prints of an address, an answer and a refusal.
+// What the client prints of an answer and a refusal.
 use kinds::FaultCode;
-use std::{fmt, io};
-
-// An IPv4 address, shown as four numbers with dots between them.
-#[derive(Clone, Copy)]
-pub(crate) struct Dotted(pub(crate) u32);
-
-impl fmt::Display for Dotted {
-    fn fmt<W: fmt::Write>(&self, f: &mut fmt::Formatter<W>) -> fmt::Result {
-        let [a, b, c, d] = self.0.to_be_bytes();
-        write!(f, "{a}.{b}.{c}.{d}")
-    }
-}
+use std::io;
 
 // The answer to a header, or why there was none.
 pub(crate) fn answer<F>(
