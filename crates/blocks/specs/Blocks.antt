@@ -4,7 +4,7 @@
 --     table_size    the places that a table takes: a start for each cell, one for the end, and the entries
 --     Fits          a table fits an area of so many places
 -- Assumes nothing.
-use Rattle.std.specs.Prelude.{ℕ, ◌+◌, ◌^◌, ◌≤◌, Bool, false, List, map, length, take, Some, None, sum, filter, Option, slice_index_or}
+use Rattle.std.specs.Prelude.{ℕ, ◌+◌, ◌^◌, ◌≤◌, Bool, false, List, map, length, Some, None, sum, filter, Option, slice_index_or}
 use Rattle.std.specs.List.{range_with_len}
 use Rattle.kinds.specs.Meaning.{Meaning}
 use Rattle.blocks.specs.Cells.{admits_cell}

@@ -10,7 +10,7 @@ ghost use Rattle.blocks.specs.Tallies.{SameCells};
 
 use super::change::Change;
 use super::clear::clear_from;
-use super::count::{block_size, total};
+use super::count::{count_sizes, total};
 use super::plan::Plan;
 use super::refusal::{Refusal, ready};
 use bits::Bits;
@@ -42,17 +42,6 @@ impl<'a> Tally<'a> {
 }
 
 impl Tally<'_> {
-    // Counts the block sizes of a plan.
-    fn count<K: Kind>(&mut self, plan: &Plan<K::Row>)
-        requires { 2 ^ length plan.now.bits.now ≤ length self.old.cells.now }
-        ensures counted { take (2 ^ length plan.now.bits.now) self.new.cells.now ≡ sizes K.meaning (rules_in K.meaning plan.now) plan.now.bits.now }
-        ensures kept { SameCells self.old self.new }
-    {
-        for cell in 0..plan.bits.cells() {
-            self.cells[cell] = block_size::<K>(plan, cell);
-        }
-    }
-
     // The numbers of the cells of a set of bits, as far as the tally reaches.
     pub fn sizes(&self, bits: &Bits) -> &[u32]
         ensures sizes { result.now ≡ take (2 ^ length bits.now) self.now.cells.now }
@@ -73,7 +62,7 @@ impl Tally<'_> {
         ensures counted { take (2 ^ length plan.now.bits.now) self.new.cells.now ≡ sizes K.meaning (rules_in K.meaning plan.now) plan.now.bits.now }
         ensures kept { SameCells self.old self.new }
     {
-        self.count::<K>(plan);
+        count_sizes::<K>(self.cells, plan);
         plan.bits.cells() + 1 + total(self.sizes(plan.bits))
     }
 
