@@ -1,5 +1,5 @@
 -- The places of a set, and the list of its bits, tell the same.
--- Assumes nothing.
+-- Proofs alone, which the code names: nothing here has to be believed.
 use Rattle.std.proofs.Common.{◌≡◌, ℕ, ◌<◌, List, length, get_or, take, ◌∙◌, sym, refl, inl, inr, arith, length-take, get_or-take}
 use Rattle.std.proofs.lemmas.Bool.{cases_lt}
 use Rattle.std.proofs.lemmas.List.{get_or_default, get_or_past}

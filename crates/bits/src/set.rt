@@ -9,6 +9,7 @@ use std::marker::Model;
 use std::ops::Range;
 
 // At most twelve rising bits, each below 1,024. A place that is not in use holds 1,024.
+// Single numbers and no array beside a count: a rule of the project, so that a set is a plain value; its functions name each place.
 #[derive(Clone, Copy, Debug, PartialEq, Eq)]
 pub struct Bits {
     count: usize,
@@ -86,7 +87,7 @@ impl Bits {
         ensures { result ≡ slice_index self.now place }
     {
         if place < self.count {
-            self.held(place) as usize
+            usize::from(self.held(place))
         } else {
             0
         }
@@ -254,7 +255,7 @@ impl IntoIterator for &Bits {
     ghost into_iter_gives = { λ bits left. (left ≡ bits.now) × (length left ≤ 12) × (rising left ≡ true) × All (λ bit. bit < 1024) left };
 
     fn into_iter(self) -> Iter {
-        self.iter()
+        Bits::iter(self)
     }
 }
 
@@ -301,5 +302,5 @@ fn power(bits: usize) -> usize
 fn kept(here: u16, next: u16, out: usize) -> u16
     ensures { result ≡ (if nat_lt here out then here else next) }
 {
-    if (here as usize) < out { here } else { next }
+    if usize::from(here) < out { here } else { next }
 }

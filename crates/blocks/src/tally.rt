@@ -67,6 +67,7 @@ impl Tally<'_> {
     }
 
     // Whether the table of some lines, which may have one of them changed, fits so many places.
+    // Lines and bits and no `Plan`, here and in `cost`: a plan would ask callers for few lines, which are refused here.
     pub fn fits<K: Kind>(
         &mut self,
         lines: &[Line<K::Row>],

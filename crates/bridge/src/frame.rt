@@ -12,7 +12,7 @@ pub struct Header {
 }
 
 impl Header {
-    // The header of a frame, of which only the first fourteen bytes are read.
+    // The header of a frame, of which only the first fourteen bytes are read. So it is no `TryFrom`, which converts a whole value.
     pub fn read(frame: &[u8]) -> Result<Header, Fault>
         ensures { result ≡ header_of frame.now }
     {

@@ -17,6 +17,7 @@ impl Judge for Squares {
 
     ghost below = { Prim.search rules };
 
+    // A loop and no chain: a rule of the project, so that the saturating sum is seen to stay capped at each step.
     fn cost_of(&self, sizes: &[u32]) -> u64 {
         let mut sum: u64 = 0;
         for size in sizes {

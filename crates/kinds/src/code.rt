@@ -4,6 +4,7 @@ ghost use Rattle.std.specs.Prelude.{Some};
 use std::fmt;
 
 // The number of the refusal, the layer that refused, and the place that it speaks of.
+// Numbers, by a rule of the project: this is what other programs are told; inside, faults are enums.
 #[derive(Clone, Copy, Debug, PartialEq, Eq)]
 pub struct FaultCode {
     pub number: u16,

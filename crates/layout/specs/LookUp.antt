@@ -11,7 +11,7 @@ use Rattle.std.specs.Prelude.{◌≡◌, ℕ, ◌+◌, ◌-◌, ◌^◌, ◌≤�
 use Rattle.std.specs.Borrow.{Bor}
 use Rattle.std.specs.List.{AllByRecursion}
 use Rattle.kinds.specs.Meaning.{Meaning}
-use Rattle.kinds.specs.Checks.{checked, ◌and_then◌}
+use Rattle.kinds.specs.Checks.{checked, ◌and_then◌, MadeOf}
 use Rattle.kinds.specs.Lines.{Matches, Lowest}
 use Rattle.judges.specs.Costs.{largest}
 use Rattle.blocks.specs.Cells.{cell_of}
@@ -33,10 +33,7 @@ block_in bits area cell =
 
 -- a slice that was handed out, beside the list that it should hold
 abbrev pub Hands : Result (List ℕ) Spoilt → Result (Bor (List ℕ)) Spoilt → Type 0
-Hands (Ok entries) (Ok part) = part.now ≡ entries
-Hands (Ok entries) (Err told) = ⊥
-Hands (Err spoilt) (Ok part) = ⊥
-Hands (Err spoilt) (Err told) = told ≡ spoilt
+Hands = MadeOf (λ entries part. part.now ≡ entries)
 
 -- the number tried counts the answered entry; with none it is the number of all entries
 abbrev pub Tried : List ℕ → Option ℕ → ℕ → Type 0

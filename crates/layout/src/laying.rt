@@ -29,7 +29,7 @@ fn write_starts(out: &mut Writer, sizes: &[u32])
     out.put(start);
 }
 
-// Writes the block of a cell.
+// Writes the block of a cell. A range and no iterator over the lines, since their numbers are what is written.
 fn write_block<K: Kind>(out: &mut Writer, plan: &Plan<K::Row>, cell: usize)
     requires { length (written out.old) + length (block K.meaning (rules_in K.meaning plan.now) plan.now.bits.now cell) ≤ length out.old.area.now }
     ensures entries { written out.new ≡ written out.old ++ block K.meaning (rules_in K.meaning plan.now) plan.now.bits.now cell }
@@ -42,7 +42,7 @@ fn write_block<K: Kind>(out: &mut Writer, plan: &Plan<K::Row>, cell: usize)
     }
 }
 
-// Writes all blocks in cell order.
+// Writes all blocks in cell order. A range, since a cell is its number.
 fn write_blocks<K: Kind>(out: &mut Writer, plan: &Plan<K::Row>)
     requires { length (written out.old) + sum (all_sizes K.meaning (rules_in K.meaning plan.now) plan.now.bits.now) ≤ length out.old.area.now }
     ensures entries { written out.new ≡ written out.old ++ flat_map (λ entries. entries) (all_blocks K.meaning (rules_in K.meaning plan.now) plan.now.bits.now) }

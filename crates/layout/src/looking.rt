@@ -24,6 +24,7 @@ pub fn block<'a, K: Kind>(
         return Err(Spoilt::Bounds);
     }
     let cell = blocks::cell_of::<K>(bits, header);
+    // `as`, here and below: there is no `From<u32>` for `usize`.
     let from = area[cell] as usize;
     let to = area[cell + 1] as usize;
     if from > to || to > area.len() - base {

@@ -4,6 +4,7 @@ use bridge::{Bridge, Header, Row, Rule};
 use kinds::Line;
 use std::io;
 
+// Apart from the packets' lines: what is said of a line, and when, differs, and one function for both would take two closures.
 fn make_lines(rt: &HostRuntime) -> io::Result<Vec<Line<Row>>> {
     let mut lines = Vec::new(rt.alloc());
     for Line { row, .. } in seven_lines::lines() {

@@ -2,7 +2,7 @@
 use kinds::FaultCode;
 use std::io;
 
-// The answer to a header, or why there was none.
+// The answer to a header, or why there was none. It prints a whole line by cases; a type with a `Display` would say no more.
 pub(crate) fn answer<F>(
     rt: &impl Print,
     answer: Result<(Option<usize>, usize), F>,

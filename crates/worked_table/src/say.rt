@@ -1,7 +1,7 @@
 // What the client prints of an answer, and of some numbers.
 use std::io;
 
-// The answer of a table: the line or `none`, and the entries tried.
+// The answer of a table: the line or `none`, and the entries tried. It prints a whole line by cases; a type with a `Display` would say no more.
 pub(crate) fn tried(rt: &impl Print, line: Option<usize>, tried: usize) -> io::Result<()> {
     match line {
         Some(line) => println!(rt; "{line} {tried}"),
