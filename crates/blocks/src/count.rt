@@ -29,7 +29,7 @@ pub(crate) fn count_sizes<K: Kind>(cells: &mut [u32], plan: &Plan<K::Row>)
 
 // The sum of some sizes.
 pub(crate) fn total(sizes: &[u32]) -> usize
-    requires { sum sizes.now < 2 ^ 32 }
+    requires { sum sizes.now < 2 ^ 64 }
     ensures { result ≡ sum sizes.now }
 {
     sizes.iter().map(|size| *size as usize).sum()

@@ -1,7 +1,7 @@
 // Seven bridge lines, and worked cases of the tables that are made of them.
 #![tactic(auto)]
 
-ghost use Rattle.std.specs.Prelude.{◌≡◌};
+ghost use Rattle.std.specs.Prelude.{◌≡◌, ◌∷◌, replicate};
 ghost use Rattle.kinds.specs.Lines.{rules_of};
 ghost use Rattle.bridge.specs.Bridge.{bridge};
 ghost use Rattle.seven_lines.specs.Beginnings.{beginning_with, line_beginning, header_beginning};
@@ -20,6 +20,15 @@ fn beginning(first: u8) -> Octets
         middle: 0,
         last: 0,
     }
+}
+
+// A frame that begins with a byte and has zeros behind it.
+pub fn frame(first: u8) -> [u8; 14]
+    ensures { result ≡ first ∷ replicate 13 0 }
+{
+    let mut frame = [0u8; 14];
+    frame[0] = first;
+    frame
 }
 
 // The header of a frame that begins with a byte and has zeros behind it.

@@ -25,9 +25,8 @@ pub(crate) fn run(rt: &HostRuntime) -> io::Result<()> {
     let lines = make_lines(rt)?;
     for first in [0xe0u8, 0x50, 0xa0] {
         println!(rt; "Frame beginning {first:02x}")?;
-        let mut frame = [0u8; 14];
-        frame[0] = first;
-        say::answer(rt, list::answer::<Bridge, _>(&lines, Header::read(&frame)))?;
+        let header = Header::read(&seven_lines::frame(first));
+        say::answer(rt, list::answer::<Bridge, _>(&lines, header))?;
     }
     Ok(())
 }

@@ -1,5 +1,5 @@
 // The table of the seven lines for two bits of a header, and what it answers.
-ghost use Rattle.std.specs.Prelude.{◌≡◌, ◌<◌, [], ◌∷◌, length, replicate, None, slice_set};
+ghost use Rattle.std.specs.Prelude.{◌≡◌, ◌<◌, [], ◌∷◌, length, None, slice_set};
 ghost use Rattle.kinds.specs.Lines.{rules_of};
 ghost use Rattle.bridge.specs.Frames.{header_of};
 ghost use Rattle.bridge.specs.Bridge.{bridge};
@@ -22,15 +22,6 @@ const ROOM: usize = 17;
 struct Book {
     lines: [Line<Row>; 7],
     bits: Bits,
-}
-
-// A frame that begins with a byte and has zeros behind it.
-fn frame(first: u8) -> [u8; 14]
-    ensures { result ≡ first ∷ replicate 13 0 }
-{
-    let mut frame = [0u8; 14];
-    frame[0] = first;
-    frame
 }
 
 // Two bits of a header.
@@ -120,7 +111,7 @@ impl Book {
     // Says what the table answers a frame.
     fn say_answer(&self, rt: &impl Print, area: &[u32], first: u8) -> io::Result<()> {
         println!(rt; "Frame beginning {first:02x}")?;
-        match self.answer(area, &frame(first)) {
+        match self.answer(area, &seven_lines::frame(first)) {
             Ok(Ok((line, tried))) => say::tried(rt, line, tried),
             Ok(Err(spoilt)) => println!(rt; "  spoilt: {spoilt}"),
             Err(fault) => println!(rt; "  refused {}", FaultCode::from(fault)),
