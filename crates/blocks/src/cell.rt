@@ -5,7 +5,7 @@ ghost use Rattle.blocks.specs.Cells.{cell_of, admits_cell};
 ghost use Rattle.blocks.specs.Blocks.{admits_line};
 
 use bits::Bits;
-use kinds::{Kind, Line};
+use kinds::{Kind, Line, digit};
 
 // The number made of a header's values at the bits, the first bit most significant.
 pub fn cell_of<K: Kind>(bits: &Bits, header: &K::Header) -> usize
@@ -26,7 +26,7 @@ fn admits_cell<K: Kind>(rule: &K::Rule, bits: &Bits, cell: usize) -> bool
     let mut behind = bits.len();
     for bit in bits {
         behind -= 1;
-        if !K::admits(rule, bit, (cell >> behind) % 2 == 1) {
+        if !K::admits(rule, bit, digit(cell as u64, behind)) {
             return false;
         }
     }

@@ -5,7 +5,6 @@ ghost use Rattle.std.specs.Prelude.{◌≡◌, ◌-◌, ◌++◌, length, take, 
 pub fn clear_from(numbers: &mut [u32], at: usize)
     ensures { numbers.new ≡ take at numbers.old ++ replicate (length numbers.old - at) 0 }
 {
-    if at < numbers.len() {
-        numbers[at..].fill(0);
-    }
+    let at = at.min(numbers.len());
+    numbers[at..].fill(0);
 }

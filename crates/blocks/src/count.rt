@@ -27,10 +27,11 @@ pub(crate) fn count_sizes<K: Kind>(cells: &mut [u32], plan: &Plan<K::Row>)
     }
 }
 
-// The sum of some sizes.
+// The sum of some sizes, of which there are as many as cells at most.
 pub(crate) fn total(sizes: &[u32]) -> usize
-    requires { sum sizes.now < 2 ^ 64 }
-    ensures { result ≡ sum sizes.now }
+    requires { length sizes.now ≤ 4096 }
+    ensures answer { result ≡ sum sizes.now }
+    ensures bound { result < 2 ^ 44 }
 {
     sizes.iter().map(|size| *size as usize).sum()
 }

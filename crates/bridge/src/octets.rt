@@ -3,6 +3,7 @@ ghost use Rattle.std.specs.Prelude.{◌≡◌};
 ghost use Rattle.bridge.specs.Bridge.{octets_bit};
 ghost use Rattle.bridge.specs.Inside.{octets_and};
 
+use kinds::digit;
 use std::ops::BitAnd;
 
 // Fourteen bytes in network order as single numbers: the first eight, the next four, the last two.
@@ -19,9 +20,9 @@ impl Octets {
         ensures { result ≡ octets_bit self.now b }
     {
         match b {
-            0..=63 => (self.first >> (63 - b)) % 2 == 1,
-            64..=95 => (self.middle >> (95 - b)) % 2 == 1,
-            96..=111 => (self.last >> (111 - b)) % 2 == 1,
+            0..=63 => digit(self.first, 63 - b),
+            64..=95 => digit(u64::from(self.middle), 95 - b),
+            96..=111 => digit(u64::from(self.last), 111 - b),
             _ => false,
         }
     }

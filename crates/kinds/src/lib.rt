@@ -2,11 +2,13 @@
 #![tactic(auto)]
 
 mod code;
+mod digits;
 mod kind;
 mod line;
 mod search;
 
 pub use code::FaultCode;
+pub use digits::digit;
 pub use kind::Kind;
 pub use line::Line;
 pub use search::{filled, first_match, rule_of};

@@ -26,10 +26,7 @@ pub fn filled<K: Kind>(rule: &K::Rule) -> Line<K::Row>
 fn line_matches<K: Kind>(line: &Line<K::Row>, header: &K::Header) -> bool
     ensures { result ≡ matches_at K.meaning (rule_of K.meaning line.now) header.now }
 {
-    match rule_of::<K>(line) {
-        Some(rule) => K::matches(&rule, header),
-        None => false,
-    }
+    rule_of::<K>(line).is_some_and(|rule| K::matches(&rule, header))
 }
 
 // The first line that is filled and whose rule matches, or none.

@@ -6,7 +6,7 @@ ghost use Rattle.routed.specs.Law.{routed_lawful};
 
 use super::packet::Header;
 use super::rule::{Row, Rule};
-use kinds::Kind;
+use kinds::{Kind, digit};
 
 pub struct Routed;
 
@@ -27,11 +27,11 @@ impl Kind for Routed {
 
     fn bit(header: &Header, b: usize) -> bool {
         match b {
-            0..=31 => (header.source >> (31 - b)) % 2 == 1,
-            32..=63 => (header.destination >> (63 - b)) % 2 == 1,
-            64..=79 => (header.source_port >> (79 - b)) % 2 == 1,
-            80..=95 => (header.destination_port >> (95 - b)) % 2 == 1,
-            96..=103 => (header.protocol >> (103 - b)) % 2 == 1,
+            0..=31 => digit(u64::from(header.source), 31 - b),
+            32..=63 => digit(u64::from(header.destination), 63 - b),
+            64..=79 => digit(u64::from(header.source_port), 79 - b),
+            80..=95 => digit(u64::from(header.destination_port), 95 - b),
+            96..=103 => digit(u64::from(header.protocol), 103 - b),
             _ => false,
         }
     }

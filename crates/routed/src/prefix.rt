@@ -2,6 +2,7 @@
 ghost use Rattle.std.specs.Prelude.{◌≡◌, ◌-◌, ◌%◌, ◌^◌, ◌≤◌};
 
 use super::fault::Defect;
+use kinds::digit;
 
 // The first bits of an address; the address has no one past them.
 #[derive(Clone, Copy, Debug, PartialEq, Eq)]
@@ -40,6 +41,6 @@ impl Prefix {
     pub(crate) fn admits(&self, b: usize, value: bool) -> bool
         ensures { result ≡ prefix_admits self.now b value }
     {
-        b >= usize::from(self.length) || value == ((self.address >> (31 - b)) % 2 == 1)
+        b >= usize::from(self.length) || value == digit(u64::from(self.address), 31 - b)
     }
 }

@@ -2,6 +2,7 @@
 ghost use Rattle.std.specs.Prelude.{◌≡◌, ◌<◌, true, ◌||◌, ◌==◌, bit_and};
 
 use super::fault::Defect;
+use kinds::digit;
 
 // One protocol, or any where the mask is 0; the value has no bit outside the mask.
 #[derive(Clone, Copy, Debug, PartialEq, Eq)]
@@ -40,6 +41,6 @@ impl ProtocolMatch {
         requires { b < 8 }
         ensures { result ≡ protocol_admits self.now b value }
     {
-        (self.mask >> (7 - b)) % 2 == 0 || value == ((self.value >> (7 - b)) % 2 == 1)
+        !digit(u64::from(self.mask), 7 - b) || value == digit(u64::from(self.value), 7 - b)
     }
 }

@@ -1,8 +1,8 @@
 // A rule by its parts, each of which promises in its type what matching and admission rely on, and the plain numbers that may hold one.
 ghost use Rattle.std.specs.Prelude.{◌≡◌};
-ghost use Rattle.routed.specs.Routed.{rule_in};
+ghost use Rattle.routed.specs.Routed.{in_field, rule_in};
 
-use super::fault::{Fault, RuleField};
+use super::fault::{Defect, Fault, RuleField};
 use super::ports::PortRange;
 use super::prefix::Prefix;
 use super::protocol::ProtocolMatch;
@@ -17,7 +17,7 @@ pub struct Rule {
     pub protocol: ProtocolMatch,
 }
 
-// The plain numbers of a rule; not all of them hold one.
+// The plain numbers of a rule, one by one by a rule of the project; not all of them hold one.
 #[derive(Clone, Copy, Debug, PartialEq, Eq)]
 pub struct Row {
     pub source: u32,
@@ -56,23 +56,33 @@ impl TryFrom<Row> for Rule {
 
     fn try_from(row: Row) -> Result<Rule, Fault> {
         Ok(Rule {
-            source: Prefix::new(row.source, row.source_length).map_err(|defect| Fault::NoRule(
+            source: in_field(
                 RuleField::Source,
-                defect,
-            ))?,
-            destination: Prefix::new(row.destination, row.destination_length).map_err(
-                |defect| Fault::NoRule(RuleField::Destination, defect),
+                Prefix::new(row.source, row.source_length),
             )?,
-            source_ports: PortRange::new(row.source_low, row.source_high).map_err(
-                |defect| Fault::NoRule(RuleField::SourcePorts, defect),
+            destination: in_field(
+                RuleField::Destination,
+                Prefix::new(row.destination, row.destination_length),
             )?,
-            destination_ports: PortRange::new(row.destination_low, row.destination_high).map_err(
-                |defect| Fault::NoRule(RuleField::DestinationPorts, defect),
+            source_ports: in_field(
+                RuleField::SourcePorts,
+                PortRange::new(row.source_low, row.source_high),
             )?,
-            protocol: ProtocolMatch::new(row.protocol, row.mask).map_err(|defect| Fault::NoRule(
+            destination_ports: in_field(
+                RuleField::DestinationPorts,
+                PortRange::new(row.destination_low, row.destination_high),
+            )?,
+            protocol: in_field(
                 RuleField::Protocol,
-                defect,
-            ))?,
+                ProtocolMatch::new(row.protocol, row.mask),
+            )?,
         })
     }
+}
+
+// A part of a rule, or the fault of the field that it belongs to.
+fn in_field<P>(field: RuleField, part: Result<P, Defect>) -> Result<P, Fault>
+    ensures { result ≡ in_field field part }
+{
+    part.map_err(|defect| Fault::NoRule(field, defect))
 }
