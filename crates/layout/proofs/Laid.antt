@@ -28,9 +28,6 @@ module _ {Header Rule Row : Type 0} (k : Meaning Header Rule Row) (rules : List 
       let entries = flat_map (λ b. b) (blocks k rules bits) in
       omega (arith, length-append (starts ++ entries) (replicate (len - table_size k rules bits) 0), length-append starts entries, length_starts 0 (sizes k rules bits), length-sizes k rules bits, length_joined (blocks k rules bits), length-replicate {A = ℕ} (len - table_size k rules bits) 0)
 
-  pub length-laid : (len : ℕ) → Fits k rules bits len → length (laid k rules bits len) ≡ len
-  length-laid len fits = omega (arith, length_all len)
-
   pub laid_fits : (len : ℕ) → length (laid k rules bits len) ≡ len → Fits k rules bits len
   laid_fits len e = omega (arith, length_all len)
 

@@ -5,7 +5,10 @@ use Rattle.std.proofs.lemmas.List.{append_assoc, flat_map_more, length-append, l
 use Rattle.std.proofs.lemmas.List.Folds.{length-flat_map-take}
 use Rattle.kinds.specs.Meaning.{Meaning}
 use Rattle.blocks.specs.Blocks.{admits_line, block, blocks, sizes, table_size}
-use Rattle.blocks.proofs.Sizes.{block_below, below_more, below_size_le, length-blocks, length-sizes, get_or-blocks}
+use Rattle.blocks.specs.Plans.{rules_in}
+use Rattle.blocks.specs.declared.plan.Plan.{Plan}
+use Rattle.blocks.proofs.Plans.{length-rules_in}
+use Rattle.blocks.proofs.Sizes.{block_below, below_all, below_more, below_size_le, length-blocks, length-sizes, get_or-blocks}
 use Rattle.layout.proofs.Joined.{length_joined}
 use Rattle.layout.specs.Layout.{starts_from, laid}
 use Rattle.layout.proofs.Starts.{length_starts}
@@ -15,10 +18,19 @@ pub grown : (front xs ys zs before after : List ℕ) → before ≡ front ++ xs 
 grown front xs ys zs before after so_far more is =
     more ∙ ap (λ (l : List ℕ). l ++ ys) so_far ∙ append_assoc front xs ys ∙ ap (λ (l : List ℕ). front ++ l) (sym is)
 
-module _ {Header Rule Row : Type 0} (k : Meaning Header Rule Row) (rules : List (Option Rule)) (bits : List ℕ) where
-  module _ (cell line room : ℕ) (front before : List ℕ) (so_far : before ≡ front ++ block_below k rules bits cell line) (named : line < length rules) where
+module _ {Header Rule Row : Type 0} (k : Meaning Header Rule Row) (plan : Plan Row) where
+  abbrev rules : List (Option Rule)
+  rules = rules_in k plan
+
+  abbrev bits : List ℕ
+  bits = plan.bits.now
+
+  module _ (cell line : ℕ) (front before : List ℕ) (so_far : before ≡ front ++ block_below k rules bits cell line) (got : line < length plan.lines.now) where
+    named : line < length rules
+    named = omega (arith, length-rules_in k plan)
+
     -- a line that a block names has room
-    pub entry_room : true ≡ admits_line k (get_or rules line None) bits cell → length front + length (block k rules bits cell) ≤ room → length before < room
+    pub entry_room : {room : ℕ} → true ≡ admits_line k (get_or rules line None) bits cell → length front + length (block k rules bits cell) ≤ room → length before < room
     entry_room names fits =
         let more = ap length (below_more k rules bits cell line true named (sym names)) in
         omega (arith, ap length so_far, length-append front (block_below k rules bits cell line), length-append (block_below k rules bits cell line) (line ∷ []), below_size_le k rules bits cell (line + 1))
@@ -29,8 +41,8 @@ module _ {Header Rule Row : Type 0} (k : Meaning Header Rule Row) (rules : List 
     pub entry_passed : false ≡ admits_line k (get_or rules line None) bits cell → before ≡ front ++ block_below k rules bits cell (line + 1)
     entry_passed passes = so_far ∙ ap (λ (l : List ℕ). front ++ l) (sym (below_more k rules bits cell line false named (sym passes) ∙ append-nil (block_below k rules bits cell line)))
 
-  module _ (c room : ℕ) (front before : List ℕ) (so_far : before ≡ front ++ flat_map (λ es. es) (take c (blocks k rules bits))) (in_cells : c < 2 ^ length bits) where
-    pub block_room : length front + sum (sizes k rules bits) ≤ room → length before + length (block k rules bits c) ≤ room
+  module _ (c : ℕ) (front before : List ℕ) (so_far : before ≡ front ++ flat_map (λ es. es) (take c (blocks k rules bits))) (in_cells : c < 2 ^ length bits) where
+    pub block_room : {room : ℕ} → length front + sum (sizes k rules bits) ≤ room → length before + length (block k rules bits c) ≤ room
     block_room fits =
         let bs = blocks k rules bits in
         let here = ap length (get_or-blocks k rules bits c in_cells) in
@@ -44,6 +56,9 @@ module _ {Header Rule Row : Type 0} (k : Meaning Header Rule Row) (rules : List 
         ∙ flat_map_more (λ es. es) front (take c bs) (block k rules bits c)
         ∙ ap (λ (b : List ℕ). front ++ flat_map (λ es. es) (take c bs ++ b ∷ [])) (sym (get_or-blocks k rules bits c in_cells))
         ∙ ap (λ (xs : List (List ℕ)). front ++ flat_map (λ es. es) xs) (sym (take_more bs c [] (omega (arith, length-blocks k rules bits))))
+
+  pub block_whole : (cell line : ℕ) (front after : List ℕ) → length plan.lines.now ≤ line → after ≡ front ++ block_below k rules bits cell line → after ≡ front ++ block k rules bits cell
+  block_whole cell line front after le so_far = cc (below_all k rules bits cell line (omega (arith, length-rules_in k plan)))
 
   pub blocks_written : (c : ℕ) (front after : List ℕ) → 2 ^ length bits ≤ c → after ≡ front ++ flat_map (λ es. es) (take c (blocks k rules bits)) → after ≡ front ++ flat_map (λ es. es) (blocks k rules bits)
   blocks_written c front after le so_far = so_far ∙ ap (λ (bs : List (List ℕ)). front ++ flat_map (λ es. es) bs) (take_all c (blocks k rules bits) (omega (arith, length-blocks k rules bits)))
