@@ -14,8 +14,8 @@ use Rattle.layout.specs.Layout.{starts_from, laid}
 use Rattle.layout.proofs.Starts.{length_starts}
 
 -- behind `front`, some numbers more
-pub grown : (front xs ys zs before after : List ℕ) → before ≡ front ++ xs → after ≡ before ++ ys → zs ≡ xs ++ ys → after ≡ front ++ zs
-grown front xs ys zs before after so_far more is =
+pub grown : {zs before after : List ℕ} (front xs ys : List ℕ) → before ≡ front ++ xs → after ≡ before ++ ys → zs ≡ xs ++ ys → after ≡ front ++ zs
+grown front xs ys so_far more is =
     more ∙ ap (λ (l : List ℕ). l ++ ys) so_far ∙ append_assoc front xs ys ∙ ap (λ (l : List ℕ). front ++ l) (sym is)
 
 module _ {Header Rule Row : Type 0} (k : Meaning Header Rule Row) (plan : Plan Row) where
@@ -36,7 +36,7 @@ module _ {Header Rule Row : Type 0} (k : Meaning Header Rule Row) (plan : Plan R
         omega (arith, ap length so_far, length-append front (block_below k rules bits cell line), length-append (block_below k rules bits cell line) (line ∷ []), below_size_le k rules bits cell (line + 1))
 
     pub entry_written : (after : List ℕ) → true ≡ admits_line k (get_or rules line None) bits cell → after ≡ before ++ line ∷ [] → after ≡ front ++ block_below k rules bits cell (line + 1)
-    entry_written after names more = grown front (block_below k rules bits cell line) (line ∷ []) (block_below k rules bits cell (line + 1)) before after so_far more (below_more k rules bits cell line true named (sym names))
+    entry_written after names more = grown front (block_below k rules bits cell line) (line ∷ []) so_far more (below_more k rules bits cell line true named (sym names))
 
     pub entry_passed : false ≡ admits_line k (get_or rules line None) bits cell → before ≡ front ++ block_below k rules bits cell (line + 1)
     entry_passed passes = so_far ∙ ap (λ (l : List ℕ). front ++ l) (sym (below_more k rules bits cell line false named (sym passes) ∙ append-nil (block_below k rules bits cell line)))
@@ -64,8 +64,8 @@ module _ {Header Rule Row : Type 0} (k : Meaning Header Rule Row) (plan : Plan R
   blocks_written c front after le so_far = so_far ∙ ap (λ (bs : List (List ℕ)). front ++ flat_map (λ es. es) bs) (take_all c (blocks k rules bits) (omega (arith, length-blocks k rules bits)))
 
   -- starts, then all blocks, then zeros to the end of an area of which `at` places were written
-  pub all_written : (ss none starts entries area final : List ℕ) (at room : ℕ) → ss ≡ sizes k rules bits → none ≡ [] → starts ≡ none ++ starts_from 0 ss → entries ≡ starts ++ flat_map (λ es. es) (blocks k rules bits) → entries ≡ take at area → length area ≡ room → table_size k rules bits ≤ room → final ≡ entries ++ replicate (length area - at) 0 → final ≡ laid k rules bits room
-  all_written ss none starts entries area final at room counted is_none starts_are entries_are written long fits zeros =
+  pub all_written : {ss none starts entries final : List ℕ} {room : ℕ} (area : List ℕ) (at : ℕ) → ss ≡ sizes k rules bits → none ≡ [] → starts ≡ none ++ starts_from 0 ss → entries ≡ starts ++ flat_map (λ es. es) (blocks k rules bits) → entries ≡ take at area → length area ≡ room → table_size k rules bits ≤ room → final ≡ entries ++ replicate (length area - at) 0 → final ≡ laid k rules bits room
+  all_written {ss = ss} {entries = entries} {room = room} area at counted is_none starts_are entries_are written long fits zeros =
       let front : entries ≡ starts_from 0 (sizes k rules bits) ++ flat_map (λ es. es) (blocks k rules bits) = entries_are ∙ ap (λ (l : List ℕ). l ++ flat_map (λ es. es) (blocks k rules bits)) (starts_are ∙ ap (λ (l : List ℕ). l ++ starts_from 0 ss) is_none ∙ ap (starts_from 0) counted) in
       let count : length entries ≡ table_size k rules bits = ap length front ∙ omega (arith, length-append (starts_from 0 (sizes k rules bits)) (flat_map (λ es. es) (blocks k rules bits)), length_starts 0 (sizes k rules bits), length-sizes k rules bits, length_joined (blocks k rules bits)) in
       let behind : length area - at ≡ room - table_size k rules bits = omega (arith, ap length written, length-take at area) in

@@ -14,7 +14,7 @@ loop-size-preserved c =
     let all = starts_from 0 c.args.sizes.now in
     record {
       start = omega (arith, sum_by_more (λ x. x) c.args.sizes.now i 0 c.loop-size-test.true, c.loop-size.invariant.start);
-      starts = grown (written c.args.out.now) (take i all) (c.loop-size.start ∷ []) (take (i + 1) all) (written c.loop-size.out) (written c.put.new.self) c.loop-size.invariant.starts c.put.ensures.written (starts_more c.args.sizes.now i c.loop-size.start (omega arith) c.loop-size.invariant.start);
+      starts = grown _ _ _ c.loop-size.invariant.starts c.put.ensures.written (starts_more c.args.sizes.now i c.loop-size.start (omega arith) c.loop-size.invariant.start);
       kept = same_behind _ _ _ c.loop-size.invariant.kept c.put.ensures.kept;
     }
 
@@ -23,4 +23,4 @@ returns-clause-starts c =
     let i = c.loop-size.size-index in
     let all = starts_from 0 c.args.sizes.now in
     let last = starts_more c.args.sizes.now i c.loop-size.start (omega arith) c.loop-size.invariant.start in
-    grown (written c.args.out.now) (take i all) (c.loop-size.start ∷ []) all (written c.loop-size.out) (written c.put-2.new.self) c.loop-size.invariant.starts c.put-2.ensures.written (sym (take_all (i + 1) all (omega (arith, length_starts 0 c.args.sizes.now))) ∙ last)
+    grown _ _ _ c.loop-size.invariant.starts c.put-2.ensures.written (sym (take_all (i + 1) all (omega (arith, length_starts 0 c.args.sizes.now))) ∙ last)
