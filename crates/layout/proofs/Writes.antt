@@ -11,7 +11,13 @@ use Rattle.blocks.proofs.Plans.{length-rules_in}
 use Rattle.blocks.proofs.Sizes.{block_below, below_all, below_more, below_size_le, length-blocks, length-sizes, get_or-blocks}
 use Rattle.layout.proofs.Joined.{length_joined}
 use Rattle.layout.specs.Layout.{starts_from, laid}
+use Rattle.layout.specs.Writing.{SameArea}
+use Rattle.layout.specs.declared.writer.Writer.{Writer}
 use Rattle.layout.proofs.Starts.{length_starts}
+
+-- an area that is written in steps stays the same lent area
+pub same_behind : {a b c : Writer} → SameArea a b → SameArea b c → SameArea a c
+same_behind first next = record { len = next.len ∙ first.len; name = next.name ∙ first.name }
 
 -- behind `front`, some numbers more
 pub grown : {zs before after : List ℕ} (front xs ys : List ℕ) → before ≡ front ++ xs → after ≡ before ++ ys → zs ≡ xs ++ ys → after ≡ front ++ zs

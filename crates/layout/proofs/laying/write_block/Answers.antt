@@ -1,7 +1,6 @@
 use Rattle.std.proofs.Common.{subst, sym, ap, ◌∙◌, arith}
 use Rattle.layout.specs.Writing.{written, SameArea}
-use Rattle.layout.proofs.Writes.{entry_room, entry_written, entry_passed, block_whole}
-use Rattle.layout.proofs.Areas.{same_behind}
+use Rattle.layout.proofs.Writes.{same_behind, entry_room, entry_written, entry_passed, block_whole}
 use Rattle.layout.proofs.laying.write_block.Goals as goal
 use Rattle.layout.proofs.laying.write_block.Goals.{then-names, else-names}
 
@@ -15,7 +14,7 @@ loop-line-preserved g c =
     elim c.if-names.branch [
       | then-names w ↦ record {
         entries = ap written w.out-is ∙ entry_written g.K.Kind.meaning c.args.plan.now _ _ _ _ so_far.entries c.loop-line-test.true (written w.put.new.self) w.if-names.ensures w.put.ensures.written;
-        kept = subst (SameArea c.args.out.now) (sym w.out-is) (same_behind _ _ _ so_far.kept w.put.ensures.kept);
+        kept = subst (SameArea c.args.out.now) (sym w.out-is) (same_behind so_far.kept w.put.ensures.kept);
       }
       | else-names w ↦ record {
         entries = ap written w.out-is ∙ entry_passed g.K.Kind.meaning c.args.plan.now _ _ _ _ so_far.entries c.loop-line-test.true w.if-names.ensures;

@@ -1,7 +1,6 @@
 use Rattle.std.proofs.Common.{arith}
 use Rattle.layout.specs.Writing.{written}
-use Rattle.layout.proofs.Areas.{same_behind}
-use Rattle.layout.proofs.Writes.{block_room, block_written, blocks_written}
+use Rattle.layout.proofs.Writes.{same_behind, block_room, block_written, blocks_written}
 use Rattle.layout.proofs.laying.write_blocks.Goals as goal
 
 pub write_block-requires : goal.write_block-requires
@@ -10,7 +9,7 @@ write_block-requires g c = omega (arith, c.loop-cell.invariant.kept.len, block_r
 pub loop-cell-preserved : goal.loop-cell-preserved
 loop-cell-preserved g c = record {
   entries = block_written g.K.Kind.meaning c.args.plan.now c.loop-cell.cell _ _ c.loop-cell.invariant.entries (omega arith) (written c.write_block.new.out) c.write_block.ensures.entries;
-  kept = same_behind _ _ _ c.loop-cell.invariant.kept c.write_block.ensures.kept;
+  kept = same_behind c.loop-cell.invariant.kept c.write_block.ensures.kept;
 }
 
 pub returns-clause-entries : goal.returns-clause-entries
