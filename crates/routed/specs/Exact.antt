@@ -4,6 +4,7 @@ use Rattle.std.specs.Prelude.{◌≡◌, ℕ, ◌+◌, ◌-◌, ◌*◌, ◌/◌
 use Rattle.std.proofs.Math.Path.{ap}
 use Rattle.std.proofs.Common.{sym, ◌∙◌, arith}
 use Rattle.std.specs.Bool.{beq}
+use Rattle.std.specs.Cmp.{booleans_Decides}
 use Rattle.std.proofs.Math.Bool.{Bool-discrete}
 use Rattle.std.proofs.Math.Nat.{add-mul}
 use Rattle.std.proofs.lemmas.Nat.{pow_pos, shl-shr, div-add-mod', mod_below, le-div, mul-le}
@@ -12,15 +13,6 @@ use Rattle.std.proofs.lemmas.Bool.Decides.{nat_tests, Decides-and, Decides-eqb, 
 use Rattle.kinds.specs.Bits.{digit, bit_of}
 use Rattle.routed.specs.Ranges.{in_range, SomePort, some_below, range_admits, ends_admit}
 use Rattle.routed.specs.declared.ports.PortRange.{PortRange}
-
-decides_true : (t : Bool) → Decides t (t ≡ true)
-decides_true t = ((λ e. e), (λ e. e))
-
-decides_beq : (x y : Bool) → Decides (beq x y) (x ≡ y)
-decides_beq true true = ((λ e. refl), (λ e. refl))
-decides_beq true false = ((λ e. sym e), (λ e. sym e))
-decides_beq false true = ((λ e. e), (λ e. e))
-decides_beq false false = ((λ e. refl), (λ e. refl))
 
 odd_next : (n : ℕ) → ((n + 1) % 2 == 1) ≡ not (n % 2 == 1)
 odd_next n = grind (arith, nat_tests)
@@ -76,7 +68,7 @@ module _ (r : PortRange) (b : ℕ) (v : Bool) where
       (λ port. in_range r port && beq (bit_of 16 port b) v)
       (λ port. (in_range r port ≡ true) × (bit_of 16 port b ≡ v))
       (some_below (λ port. in_range r port && beq (bit_of 16 port b) v))
-      (λ port. Decides-and (in_range r port) (beq (bit_of 16 port b) v) (decides_true (in_range r port)) (decides_beq (bit_of 16 port b) v))
+      (λ port. Decides-and (in_range r port) (beq (bit_of 16 port b) v) ((λ e. e), (λ e. e)) (booleans_Decides (bit_of 16 port b) v))
       refl (λ _. refl) (r.high + 1))
 
   in_range_between : (n : ℕ) → r.low ≤ n → n ≤ r.high → in_range r n ≡ true
@@ -95,11 +87,11 @@ module _ (r : PortRange) (b : ℕ) (v : Bool) where
 
   ends_agree : r.low / 2 ^ (15 - b) ≡ r.high / 2 ^ (15 - b) → Decides (beq (bit_of 16 r.low b) v) (SomePort r b v)
   ends_agree same = (
-    (λ e. (r.low, in_range_between r.low (omega arith) r.ordered, (decides_beq (bit_of 16 r.low b) v).0 e)),
+    (λ e. (r.low, in_range_between r.low (omega arith) r.ordered, (booleans_Decides (bit_of 16 r.low b) v).0 e)),
     (λ some.
         let parts = and_parts (nat_le r.low some.0) (nat_le some.0 r.high) some.1 in
         let e = quotient_between r.low r.high (15 - b) r.ordered some.0 (leb-true r.low some.0 parts.0) (leb-true some.0 r.high parts.1) same in
-        (decides_beq (bit_of 16 r.low b) v).1 (ap (λ (n : ℕ). nat_eq (n % 2) 1) (sym e) ∙ some.2)),
+        (booleans_Decides (bit_of 16 r.low b) v).1 (ap (λ (n : ℕ). nat_eq (n % 2) 1) (sym e) ∙ some.2)),
   )
 
   ends_decide : (t : Bool) → Decides t (r.low / 2 ^ (15 - b) ≡ r.high / 2 ^ (15 - b)) → Decides (not t || beq (bit_of 16 r.low b) v) (SomePort r b v)
