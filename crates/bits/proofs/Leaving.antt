@@ -51,18 +51,16 @@ take-moved_up (suc n) out (c ∷ cs) lt r m =
 -- a number below a list stays below it as a bit leaves
 first_without : (out c : ℕ) (cs : List ℕ) → rising (c ∷ cs) ≡ true → below_first c (without_bit out cs) ≡ true
 first_without out c [] r = refl
-first_without out c (d ∷ []) r = elim (cases_eq out d) [ inl p ↦ rw (eq-eqb out d p) | inr n ↦ rw (ne_eqb out d n) (grind (arith, nat_tests)) ]
-first_without out c (d ∷ e ∷ es) r = elim (cases_eq out d) [ inl p ↦ rw (eq-eqb out d p) (grind (arith, nat_tests)) | inr n ↦ rw (ne_eqb out d n) (grind (arith, nat_tests)) ]
+first_without out c (d ∷ []) r = grind (arith, nat_tests)
+first_without out c (d ∷ e ∷ es) r = grind (arith, nat_tests)
 
 -- a rising list rises still as a bit leaves
 rising_without : (out : ℕ) (l : List ℕ) → rising l ≡ true → rising (without_bit out l) ≡ true
 rising_without out [] r = refl
 rising_without out (c ∷ cs) r =
-    let up : rising cs ≡ true = grind (arith, nat_tests) in
-    elim (cases_eq out c) [
-      | inl p ↦ rw (eq-eqb out c p) up
-      | inr n ↦ rw (ne_eqb out c n) (and_from (below_first c (without_bit out cs)) (rising (without_bit out cs)) (first_without out c cs r) (rising_without out cs up))
-    ]
+    let first = first_without out c cs r in
+    let rest = rising_without out cs (grind (arith, nat_tests)) in
+    grind (arith, nat_tests)
 
 -- what may join a set may join it still as another bit leaves
 pub joins_without : (b out : ℕ) (l : List ℕ) → joins b l ≡ true → joins b (without_bit out l) ≡ true

@@ -26,10 +26,7 @@ pub member_behind : (b c : ℕ) (cs : List ℕ) → rising (c ∷ cs) ≡ true �
 member_behind b c [] r m = absurd (both_ways false refl m)
 member_behind b c (d ∷ ds) r m =
     let up : rising (d ∷ ds) ≡ true = grind (arith, nat_tests) in
-    elim (cases_eq b d) [
-      | inl e ↦ grind (arith, nat_tests)
-      | inr n ↦ (let rest : member b ds ≡ true = grind (arith, nat_tests) in let lt = member_behind b d ds up rest in grind (arith, nat_tests))
-    ]
+    grind (arith, nat_tests, member_behind b d ds up)
 
 -- the last number of a rising list is the largest
 pub member_last : (b n : ℕ) (l : List ℕ) → n < length l → rising (take (suc n) l) ≡ true → member b (take (suc n) l) ≡ true → b ≤ get_or l n 0
@@ -39,15 +36,11 @@ member_last b (suc n) (c ∷ []) lt r m = absurd (omega arith)
 member_last b (suc n) (c ∷ d ∷ ds) lt r m =
     let up : rising (take (suc n) (d ∷ ds)) ≡ true = grind (arith, nat_tests) in
     let first : d ≤ get_or (d ∷ ds) n 0 = member_last d n (d ∷ ds) (omega arith) up (member_at d (take (suc n) (d ∷ ds)) 0 (omega arith) refl) in
-    elim (cases_eq b c) [
-      | inl e ↦ grind (arith, nat_tests)
-      | inr ne ↦ (let rest : member b (take (suc n) (d ∷ ds)) ≡ true = grind (arith, nat_tests) in member_last b n (d ∷ ds) (omega arith) up rest)
-    ]
+    grind (arith, nat_tests, member_last b n (d ∷ ds) (omega arith) up)
 
 -- what was no member is none as another bit leaves
 pub member_without : (b out : ℕ) (l : List ℕ) → member b l ≡ false → member b (without_bit out l) ≡ false
 member_without b out [] m = refl
 member_without b out (c ∷ cs) m =
-    let rest : member b cs ≡ false = grind (arith, nat_tests) in
-    let e = member_without b out cs rest in
-    elim (cases_eq out c) [ inl p ↦ rw (eq-eqb out c p) rest | inr n ↦ rw (ne_eqb out c n) (grind (arith, nat_tests)) ]
+    let rest = member_without b out cs (grind (arith, nat_tests)) in
+    grind (arith, nat_tests)
