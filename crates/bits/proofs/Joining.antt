@@ -13,26 +13,17 @@ abbrev pub handed_on : ℕ → List ℕ → List ℕ
 handed_on b [] = []
 handed_on b (c ∷ cs) = min b c ∷ handed_on (max b c) cs
 
--- a bit below the first joins in front
-with_bit_first : (b : ℕ) (cs : List ℕ) → below_first b cs ≡ true → with_bit b cs ≡ b ∷ cs
-with_bit_first b [] r = refl
-with_bit_first b (c ∷ cs) r = simp r
-
 -- one place: the lesser stays, and the larger goes on
 with_bit_min_max : (b c : ℕ) (cs : List ℕ) → rising (c ∷ cs) ≡ true → min b c ∷ with_bit (max b c) cs ≡ with_bit b (c ∷ cs)
-with_bit_min_max b c cs r =
-    let first : below_first c cs ≡ true = grind (arith, nat_tests) in
-    let front = with_bit_first c cs first in
-    grind (arith, nat_tests)
+with_bit_min_max b c [] r = grind (arith, nat_tests)
+with_bit_min_max b c (d ∷ ds) r = grind (arith, nat_tests)
 
 -- the places in use and one more hold the list with the bit
 take-handed_on : (n b : ℕ) (l : List ℕ) → n < length l → rising (take n l) ≡ true → ((k : ℕ) → k < n → get_or l k 0 ≤ get_or l n 0) → b ≤ get_or l n 0 → take (suc n) (handed_on b l) ≡ with_bit b (take n l)
 take-handed_on n b [] lt r low le = absurd (omega arith)
-take-handed_on zero b (c ∷ cs) lt r low le = let e : min b c ≡ b = omega arith in ap (λ (d : ℕ). d ∷ []) e
+take-handed_on zero b (c ∷ cs) lt r low le = grind arith
 take-handed_on (suc n) b (c ∷ cs) lt r low le =
-    let up : rising (take n cs) ≡ true = grind (arith, nat_tests) in
-    let le' : max b c ≤ get_or cs n 0 = omega (arith, low 0 (omega arith)) in
-    ap (λ (ds : List ℕ). min b c ∷ ds) (take-handed_on n (max b c) cs (omega arith) up (λ k h. low (suc k) (omega arith)) le')
+    ap (λ (ds : List ℕ). min b c ∷ ds) (take-handed_on n (max b c) cs (omega arith) (grind (arith, nat_tests)) (λ k h. low (suc k) (omega arith)) (omega (arith, low 0 (omega arith))))
     ∙ with_bit_min_max b c (take n cs) r
 
 -- a number below a list stays below it as a larger bit joins

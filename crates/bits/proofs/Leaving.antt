@@ -38,14 +38,12 @@ above_first n c cs lt r k h =
 -- the places in use but one hold the list without the bit
 take-moved_up : (n out : ℕ) (l : List ℕ) → n < length l → rising (take (suc n) l) ≡ true → member out (take (suc n) l) ≡ true → take n (moved_up out l) ≡ without_bit out (take (suc n) l)
 take-moved_up n out [] lt r m = absurd (omega arith)
-take-moved_up zero out (c ∷ cs) lt r m = let e : eqb out c ≡ true = grind (arith, nat_tests) in rw e
+take-moved_up zero out (c ∷ cs) lt r m = grind (arith, nat_tests)
 take-moved_up (suc n) out (c ∷ cs) lt r m =
     let up : rising (take (suc n) cs) ≡ true = grind (arith, nat_tests) in
     elim (cases_eq out c) [
       | inl p ↦ rw (eq-eqb out c p, le-ltb c out (omega arith)) (take_behind n out cs (omega arith) (λ k h. omega (arith, above_first n c cs (omega arith) r k h)))
-      | inr ne ↦
-          (let rest : member out (take (suc n) cs) ≡ true = grind (arith, nat_tests) in
-          rw (ne_eqb out c ne, lt-ltb c out (member_behind out c (take (suc n) cs) r rest)) (ap (λ (ds : List ℕ). c ∷ ds) (take-moved_up n out cs (omega arith) up rest)))
+      | inr ne ↦ grind (arith, nat_tests, member_behind out c (take (suc n) cs) r, take-moved_up n out cs (omega arith) up)
     ]
 
 -- a number below a list stays below it as a bit leaves
@@ -65,8 +63,7 @@ rising_without out (c ∷ cs) r =
 -- what may join a set may join it still as another bit leaves
 pub joins_without : (b out : ℕ) (l : List ℕ) → joins b l ≡ true → joins b (without_bit out l) ≡ true
 joins_without b out l j =
-    let apart : member b l ≡ false = grind (arith, nat_tests) in
-    let still = member_without b out l apart in
+    let still = member_without b out l (grind (arith, nat_tests)) in
     grind (arith, nat_tests)
 
 -- a free place, or one past the last

@@ -18,12 +18,12 @@ member_at b (c ∷ cs) (suc k) lt e = let rest = member_at b cs k (omega arith) 
 
 -- a list with a member is not empty
 pub member_some : (b : ℕ) (l : List ℕ) → member b l ≡ true → 0 < length l
-member_some b [] m = absurd (both_ways false refl m)
+member_some b [] m = grind (arith, nat_tests)
 member_some b (c ∷ cs) m = omega arith
 
 -- what stands behind the first number of a rising list lies above it
 pub member_behind : (b c : ℕ) (cs : List ℕ) → rising (c ∷ cs) ≡ true → member b cs ≡ true → c < b
-member_behind b c [] r m = absurd (both_ways false refl m)
+member_behind b c [] r m = grind (arith, nat_tests)
 member_behind b c (d ∷ ds) r m =
     let up : rising (d ∷ ds) ≡ true = grind (arith, nat_tests) in
     grind (arith, nat_tests, member_behind b d ds up)
@@ -35,7 +35,7 @@ member_last b zero (c ∷ cs) lt r m = grind (arith, nat_tests)
 member_last b (suc n) (c ∷ []) lt r m = absurd (omega arith)
 member_last b (suc n) (c ∷ d ∷ ds) lt r m =
     let up : rising (take (suc n) (d ∷ ds)) ≡ true = grind (arith, nat_tests) in
-    let first : d ≤ get_or (d ∷ ds) n 0 = member_last d n (d ∷ ds) (omega arith) up (member_at d (take (suc n) (d ∷ ds)) 0 (omega arith) refl) in
+    let first = member_last d n (d ∷ ds) (omega arith) up (grind (arith, nat_tests)) in
     grind (arith, nat_tests, member_last b n (d ∷ ds) (omega arith) up)
 
 -- what was no member is none as another bit leaves
