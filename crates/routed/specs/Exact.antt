@@ -18,10 +18,7 @@ odd_next : (n : ℕ) → ((n + 1) % 2 == 1) ≡ not (n % 2 == 1)
 odd_next n = grind (arith, nat_tests)
 
 not_same : (x y : Bool) → (x ≢ y) → not x ≡ y
-not_same true true ne = absurd (ne refl)
-not_same true false ne = refl
-not_same false true ne = refl
-not_same false false ne = absurd (ne refl)
+not_same x y ne = grind (arith, nat_tests)
 
 -- the numbers from low to high, divided by q, count from low / q to high / q
 module _ (low high k : ℕ) (ordered : low ≤ high) where
