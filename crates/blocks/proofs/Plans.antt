@@ -1,5 +1,5 @@
 -- A plan's lines and their rules, place by place.
-use Rattle.std.proofs.Common.{◌≡◌, ℕ, zero, suc, ◌^◌, ◌≤◌, Bool, false, List, [], ◌∷◌, length, get_or, slice_get, Some, None, Option, sum, ap, ◌∙◌, arith}
+use Rattle.std.proofs.Common.{◌≡◌, ℕ, zero, suc, ◌^◌, ◌≤◌, Bool, false, List, [], ◌∷◌, length, get_or, slice_get, None, sum, ◌∙◌, arith}
 use Rattle.std.proofs.lemmas.List.{length-map}
 use Rattle.std.specs.Option.{MatchOption}
 use Rattle.kinds.specs.Meaning.{Meaning}

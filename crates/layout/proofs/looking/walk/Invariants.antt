@@ -1,4 +1,4 @@
-use Rattle.std.proofs.Common.{◌≡◌, ◌≤◌, length, drop}
+use Rattle.std.proofs.Common.{◌≡◌, drop}
 use Rattle.kinds.specs.Lines.{rules_of}
 use Rattle.layout.specs.LookUp.{walked}
 use Rattle.layout.proofs.looking.walk.Given as goal
