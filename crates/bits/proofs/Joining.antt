@@ -1,6 +1,5 @@
 -- A bit joins a rising list: each place keeps the lesser of two numbers and hands on the larger.
-use Rattle.std.proofs.Common.{◌≡◌, ℕ, zero, suc, ◌+◌, ◌<◌, ◌≤◌, min, max, true, false, ltb, List, [], ◌∷◌, length, get_or, take, refl, sym, ap, ◌∙◌, inl, inr, add-one, arith}
-use Rattle.std.proofs.lemmas.Bool.{cases_lt, lt-ltb, le-ltb, and_from}
+use Rattle.std.proofs.Common.{◌≡◌, ℕ, zero, suc, ◌+◌, ◌<◌, ◌≤◌, min, max, true, false, List, [], ◌∷◌, length, get_or, take, refl, sym, ap, ◌∙◌, add-one, arith}
 use Rattle.std.proofs.lemmas.Bool.Decides.{nat_tests}
 use Rattle.bits.specs.Chosen.{joins}
 use Rattle.bits.specs.declared.set.Bits.TheInside.{Inside}
@@ -13,47 +12,30 @@ abbrev pub handed_on : ℕ → List ℕ → List ℕ
 handed_on b [] = []
 handed_on b (c ∷ cs) = min b c ∷ handed_on (max b c) cs
 
--- a bit below the first joins in front
-with_bit_first : (b : ℕ) (cs : List ℕ) → below_first b cs ≡ true → with_bit b cs ≡ b ∷ cs
-with_bit_first b [] r = refl
-with_bit_first b (c ∷ cs) r = simp r
-
 -- one place: the lesser stays, and the larger goes on
 with_bit_min_max : (b c : ℕ) (cs : List ℕ) → rising (c ∷ cs) ≡ true → min b c ∷ with_bit (max b c) cs ≡ with_bit b (c ∷ cs)
-with_bit_min_max b c cs r =
-    let first : below_first c cs ≡ true = grind (arith, nat_tests) in
-    elim (cases_lt b c) [
-      | inl p ↦ (let lo : min b c ≡ b = omega arith in let hi : max b c ≡ c = omega arith in rw (lo, hi, lt-ltb b c p, with_bit_first c cs first))
-      | inr p ↦ (let lo : min b c ≡ c = omega arith in let hi : max b c ≡ b = omega arith in rw (lo, hi, le-ltb b c p))
-    ]
+with_bit_min_max b c [] r = grind (arith, nat_tests)
+with_bit_min_max b c (d ∷ ds) r = grind (arith, nat_tests)
 
 -- the places in use and one more hold the list with the bit
 take-handed_on : (n b : ℕ) (l : List ℕ) → n < length l → rising (take n l) ≡ true → ((k : ℕ) → k < n → get_or l k 0 ≤ get_or l n 0) → b ≤ get_or l n 0 → take (suc n) (handed_on b l) ≡ with_bit b (take n l)
 take-handed_on n b [] lt r low le = absurd (omega arith)
-take-handed_on zero b (c ∷ cs) lt r low le = let e : min b c ≡ b = omega arith in ap (λ (d : ℕ). d ∷ []) e
+take-handed_on zero b (c ∷ cs) lt r low le = grind arith
 take-handed_on (suc n) b (c ∷ cs) lt r low le =
-    let up : rising (take n cs) ≡ true = grind (arith, nat_tests) in
-    let le' : max b c ≤ get_or cs n 0 = omega (arith, low 0 (omega arith)) in
-    ap (λ (ds : List ℕ). min b c ∷ ds) (take-handed_on n (max b c) cs (omega arith) up (λ k h. low (suc k) (omega arith)) le')
+    ap (λ (ds : List ℕ). min b c ∷ ds) (take-handed_on n (max b c) cs (omega arith) (grind (arith, nat_tests)) (λ k h. low (suc k) (omega arith)) (omega (arith, low 0 (omega arith))))
     ∙ with_bit_min_max b c (take n cs) r
 
 -- a number below a list stays below it as a larger bit joins
 first_with_bit : (b c : ℕ) (cs : List ℕ) → c < b → below_first c cs ≡ true → below_first c (with_bit b cs) ≡ true
 first_with_bit b c [] lt u = grind (arith, nat_tests)
-first_with_bit b c (d ∷ ds) lt u = elim (cases_lt b d) [ inl p ↦ rw (lt-ltb b d p) (lt-ltb c b lt) | inr p ↦ rw (le-ltb b d p) u ]
+first_with_bit b c (d ∷ ds) lt u = grind (arith, nat_tests)
 
 -- a rising list rises still as a new bit joins
 rising-with_bit : (b : ℕ) (l : List ℕ) → rising l ≡ true → member b l ≡ false → rising (with_bit b l) ≡ true
 rising-with_bit b [] r m = refl
 rising-with_bit b (c ∷ cs) r m =
-    let first : below_first c cs ≡ true = grind (arith, nat_tests) in
-    let up : rising cs ≡ true = grind (arith, nat_tests) in
-    let new : member b cs ≡ false = grind (arith, nat_tests) in
-    let ne : b ≡ c → ⊥ = grind (arith, nat_tests) in
-    elim (cases_lt b c) [
-      | inl p ↦ rw (lt-ltb b c p) (and_from (ltb b c) (rising (c ∷ cs)) (lt-ltb b c p) r)
-      | inr p ↦ rw (le-ltb b c p) (and_from (below_first c (with_bit b cs)) (rising (with_bit b cs)) (first_with_bit b c cs (omega arith) first) (rising-with_bit b cs up new))
-    ]
+    let rest = rising-with_bit b cs (grind (arith, nat_tests)) (grind (arith, nat_tests)) in
+    grind (arith, nat_tests, first_with_bit)
 
 -- the number that goes on is the mark of a free place at last
 free_handed_on : (mark n b k : ℕ) (l : List ℕ) → n ≤ k → k < length l → b ≤ mark → (n ≡ k → b ≡ mark) → ((j : ℕ) → n ≤ j → j < length l → get_or l j 0 ≡ mark) → ((j : ℕ) → j < n → get_or l j 0 ≤ mark) → get_or (handed_on b l) k 0 ≡ mark

@@ -1,6 +1,6 @@
 -- A bit leaves a rising list: from that bit on, each place takes what the next one holds.
-use Rattle.std.proofs.Common.{◌≡◌, ℕ, zero, suc, ◌-◌, ◌<◌, ◌≤◌, true, false, cond, eqb, ltb, List, [], ◌∷◌, length, get_or, take, refl, sym, ap, ◌∙◌, inl, inr, arith, length-take, get_or-take}
-use Rattle.std.proofs.lemmas.Bool.{cases_eq, cases_lt, eq-eqb, ne_eqb, lt-ltb, le-ltb, and_from}
+use Rattle.std.proofs.Common.{◌≡◌, ℕ, zero, suc, ◌-◌, ◌<◌, ◌≤◌, true, cond, ltb, List, [], ◌∷◌, length, get_or, take, refl, sym, ap, ◌∙◌, inl, inr, arith, length-take, get_or-take}
+use Rattle.std.proofs.lemmas.Bool.{cases_eq, cases_lt, eq-eqb, le-ltb}
 use Rattle.std.proofs.lemmas.Bool.Decides.{nat_tests}
 use Rattle.std.proofs.lemmas.List.{get_or_default, get_or_past}
 use Rattle.bits.specs.Chosen.{joins}
@@ -38,37 +38,32 @@ above_first n c cs lt r k h =
 -- the places in use but one hold the list without the bit
 take-moved_up : (n out : ℕ) (l : List ℕ) → n < length l → rising (take (suc n) l) ≡ true → member out (take (suc n) l) ≡ true → take n (moved_up out l) ≡ without_bit out (take (suc n) l)
 take-moved_up n out [] lt r m = absurd (omega arith)
-take-moved_up zero out (c ∷ cs) lt r m = let e : eqb out c ≡ true = grind (arith, nat_tests) in rw e
+take-moved_up zero out (c ∷ cs) lt r m = grind (arith, nat_tests)
 take-moved_up (suc n) out (c ∷ cs) lt r m =
     let up : rising (take (suc n) cs) ≡ true = grind (arith, nat_tests) in
     elim (cases_eq out c) [
       | inl p ↦ rw (eq-eqb out c p, le-ltb c out (omega arith)) (take_behind n out cs (omega arith) (λ k h. omega (arith, above_first n c cs (omega arith) r k h)))
-      | inr ne ↦
-          (let rest : member out (take (suc n) cs) ≡ true = grind (arith, nat_tests) in
-          rw (ne_eqb out c ne, lt-ltb c out (member_behind out c (take (suc n) cs) r rest)) (ap (λ (ds : List ℕ). c ∷ ds) (take-moved_up n out cs (omega arith) up rest)))
+      | inr ne ↦ grind (arith, nat_tests, member_behind out c (take (suc n) cs) r, take-moved_up n out cs (omega arith) up)
     ]
 
 -- a number below a list stays below it as a bit leaves
 first_without : (out c : ℕ) (cs : List ℕ) → rising (c ∷ cs) ≡ true → below_first c (without_bit out cs) ≡ true
 first_without out c [] r = refl
-first_without out c (d ∷ []) r = elim (cases_eq out d) [ inl p ↦ rw (eq-eqb out d p) | inr n ↦ rw (ne_eqb out d n) (grind (arith, nat_tests)) ]
-first_without out c (d ∷ e ∷ es) r = elim (cases_eq out d) [ inl p ↦ rw (eq-eqb out d p) (grind (arith, nat_tests)) | inr n ↦ rw (ne_eqb out d n) (grind (arith, nat_tests)) ]
+first_without out c (d ∷ []) r = grind (arith, nat_tests)
+first_without out c (d ∷ e ∷ es) r = grind (arith, nat_tests)
 
 -- a rising list rises still as a bit leaves
 rising_without : (out : ℕ) (l : List ℕ) → rising l ≡ true → rising (without_bit out l) ≡ true
 rising_without out [] r = refl
 rising_without out (c ∷ cs) r =
-    let up : rising cs ≡ true = grind (arith, nat_tests) in
-    elim (cases_eq out c) [
-      | inl p ↦ rw (eq-eqb out c p) up
-      | inr n ↦ rw (ne_eqb out c n) (and_from (below_first c (without_bit out cs)) (rising (without_bit out cs)) (first_without out c cs r) (rising_without out cs up))
-    ]
+    let first = first_without out c cs r in
+    let rest = rising_without out cs (grind (arith, nat_tests)) in
+    grind (arith, nat_tests)
 
 -- what may join a set may join it still as another bit leaves
 pub joins_without : (b out : ℕ) (l : List ℕ) → joins b l ≡ true → joins b (without_bit out l) ≡ true
 joins_without b out l j =
-    let apart : member b l ≡ false = grind (arith, nat_tests) in
-    let still = member_without b out l apart in
+    let still = member_without b out l (grind (arith, nat_tests)) in
     grind (arith, nat_tests)
 
 -- a free place, or one past the last

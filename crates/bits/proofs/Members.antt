@@ -1,7 +1,6 @@
 -- Which numbers a list has.
-use Rattle.std.proofs.Common.{◌≡◌, ℕ, zero, suc, ◌<◌, ◌≤◌, true, false, eqb, List, [], ◌∷◌, length, get_or, take, refl, inl, inr, arith}
+use Rattle.std.proofs.Common.{◌≡◌, ℕ, zero, suc, ◌<◌, ◌≤◌, true, false, eqb, List, [], ◌∷◌, length, get_or, take, refl, arith}
 use Rattle.std.specs.List.{list_any}
-use Rattle.std.proofs.lemmas.Bool.{both_ways, cases_eq, eq-eqb, ne_eqb}
 use Rattle.std.proofs.lemmas.Bool.Decides.{nat_tests}
 use Rattle.bits.specs.Sets.{rising, member, without_bit}
 
@@ -18,18 +17,15 @@ member_at b (c ∷ cs) (suc k) lt e = let rest = member_at b cs k (omega arith) 
 
 -- a list with a member is not empty
 pub member_some : (b : ℕ) (l : List ℕ) → member b l ≡ true → 0 < length l
-member_some b [] m = absurd (both_ways false refl m)
+member_some b [] m = grind (arith, nat_tests)
 member_some b (c ∷ cs) m = omega arith
 
 -- what stands behind the first number of a rising list lies above it
 pub member_behind : (b c : ℕ) (cs : List ℕ) → rising (c ∷ cs) ≡ true → member b cs ≡ true → c < b
-member_behind b c [] r m = absurd (both_ways false refl m)
+member_behind b c [] r m = grind (arith, nat_tests)
 member_behind b c (d ∷ ds) r m =
     let up : rising (d ∷ ds) ≡ true = grind (arith, nat_tests) in
-    elim (cases_eq b d) [
-      | inl e ↦ grind (arith, nat_tests)
-      | inr n ↦ (let rest : member b ds ≡ true = grind (arith, nat_tests) in let lt = member_behind b d ds up rest in grind (arith, nat_tests))
-    ]
+    grind (arith, nat_tests, member_behind b d ds up)
 
 -- the last number of a rising list is the largest
 pub member_last : (b n : ℕ) (l : List ℕ) → n < length l → rising (take (suc n) l) ≡ true → member b (take (suc n) l) ≡ true → b ≤ get_or l n 0
@@ -38,16 +34,12 @@ member_last b zero (c ∷ cs) lt r m = grind (arith, nat_tests)
 member_last b (suc n) (c ∷ []) lt r m = absurd (omega arith)
 member_last b (suc n) (c ∷ d ∷ ds) lt r m =
     let up : rising (take (suc n) (d ∷ ds)) ≡ true = grind (arith, nat_tests) in
-    let first : d ≤ get_or (d ∷ ds) n 0 = member_last d n (d ∷ ds) (omega arith) up (member_at d (take (suc n) (d ∷ ds)) 0 (omega arith) refl) in
-    elim (cases_eq b c) [
-      | inl e ↦ grind (arith, nat_tests)
-      | inr ne ↦ (let rest : member b (take (suc n) (d ∷ ds)) ≡ true = grind (arith, nat_tests) in member_last b n (d ∷ ds) (omega arith) up rest)
-    ]
+    let first = member_last d n (d ∷ ds) (omega arith) up (grind (arith, nat_tests)) in
+    grind (arith, nat_tests, member_last b n (d ∷ ds) (omega arith) up)
 
 -- what was no member is none as another bit leaves
 pub member_without : (b out : ℕ) (l : List ℕ) → member b l ≡ false → member b (without_bit out l) ≡ false
 member_without b out [] m = refl
 member_without b out (c ∷ cs) m =
-    let rest : member b cs ≡ false = grind (arith, nat_tests) in
-    let e = member_without b out cs rest in
-    elim (cases_eq out c) [ inl p ↦ rw (eq-eqb out c p) rest | inr n ↦ rw (ne_eqb out c n) (grind (arith, nat_tests)) ]
+    let rest = member_without b out cs (grind (arith, nat_tests)) in
+    grind (arith, nat_tests)

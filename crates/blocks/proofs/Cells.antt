@@ -20,7 +20,7 @@ odd : (hi : ℕ) (v : Bool) → eqb ((hi * 2 + bool_byte v) % 2) 1 ≡ v
 odd hi true = ap (λ x. eqb x 1) (mod-mul-add hi 2 1 (omega arith))
 odd hi false = ap (λ x. eqb x 1) (mod-mul-add hi 2 0 (omega arith))
 
-pub digit_here : (hi n c : ℕ) (v : Bool) → c < 2 ^ n → digit ((hi * 2 + bool_byte v) * 2 ^ n + c) n ≡ v
+digit_here : (hi n c : ℕ) (v : Bool) → c < 2 ^ n → digit ((hi * 2 + bool_byte v) * 2 ^ n + c) n ≡ v
 digit_here hi n c v h = ap (λ x. eqb (x % 2) 1) (shr_high (hi * 2 + bool_byte v) n c h) ∙ odd hi v
 
 pub byte_few : (v : Bool) → bool_byte v ≤ 1
@@ -37,8 +37,8 @@ module _ {Header Rule Row : Type 0} (k : Meaning Header Rule Row) where
   cell_of_below (b ∷ bs) h = omega (arith, cell_of_below bs h, weigh_le (k.bit h b) (length bs), two-pow-succ (length bs))
 
   -- one turn of the loop over the bits: the first of those left moves from below the weights into the number
-  pub cell_turn : (bits left behind : List ℕ) (h : Header) (cell b byte : ℕ) (v : Bool) → left ≡ b ∷ behind → v ≡ k.bit h b → byte ≡ bool_byte v → cell * 2 ^ length left + cell_of k left h ≡ cell_of k bits h → (2 * cell + byte) * 2 ^ length behind + cell_of k behind h ≡ cell_of k bits h
-  cell_turn bits left behind h cell b byte v is told told_byte so_far =
+  pub cell_turn : {left behind : List ℕ} {b byte : ℕ} {v : Bool} (bits : List ℕ) (h : Header) (cell : ℕ) → left ≡ b ∷ behind → v ≡ k.bit h b → byte ≡ bool_byte v → cell * 2 ^ length left + cell_of k left h ≡ cell_of k bits h → (2 * cell + byte) * 2 ^ length behind + cell_of k behind h ≡ cell_of k bits h
+  cell_turn {left = left} {behind = behind} {byte = byte} {v = v} bits h cell is told told_byte so_far =
       let moved : (2 * cell + byte) * 2 ^ length behind + cell_of k behind h ≡ cell * 2 ^ suc (length behind) + (weigh v (length behind) + cell_of k behind h) =
       ap (λ (n : ℕ). n * 2 ^ length behind + cell_of k behind h) (omega (arith, told_byte)) ∙ sym (regroup v cell (length behind) (cell_of k behind h)) in
       moved
@@ -47,8 +47,8 @@ module _ {Header Rule Row : Type 0} (k : Meaning Header Rule Row) where
       ∙ so_far
 
   -- with no bit left it is the cell
-  pub cell_last : (bits left : List ℕ) (h : Header) (cell : ℕ) → left ≡ [] → cell * 2 ^ length left + cell_of k left h ≡ cell_of k bits h → cell < 2 ^ length bits
-  cell_last bits left h cell none so_far =
+  pub cell_last : {left : List ℕ} (bits : List ℕ) (h : Header) (cell : ℕ) → left ≡ [] → cell * 2 ^ length left + cell_of k left h ≡ cell_of k bits h → cell < 2 ^ length bits
+  cell_last {left = left} bits h cell none so_far =
       let is : cell * 2 ^ length left + cell_of k left h ≡ cell = ap (λ (bs : List ℕ). cell * 2 ^ length bs + cell_of k bs h) none ∙ omega arith in
       omega (arith, cell_of_below bits h)
 

@@ -1,5 +1,5 @@
 -- A plan's lines and their rules, place by place.
-use Rattle.std.proofs.Common.{◌≡◌, ℕ, zero, suc, ◌^◌, ◌≤◌, Bool, false, List, [], ◌∷◌, length, get_or, slice_get, Some, None, Option, sum, ap, ◌∙◌, arith}
+use Rattle.std.proofs.Common.{◌≡◌, ℕ, zero, suc, ◌^◌, ◌≤◌, Bool, false, List, [], ◌∷◌, length, get_or, slice_get, None, sum, ◌∙◌, arith}
 use Rattle.std.proofs.lemmas.List.{length-map}
 use Rattle.std.specs.Option.{MatchOption}
 use Rattle.kinds.specs.Meaning.{Meaning}
@@ -14,12 +14,10 @@ use Rattle.blocks.proofs.Sizes.{entries_bound}
 
 module _ {Header Rule Row : Type 0} (k : Meaning Header Rule Row) (bits : List ℕ) (cell : ℕ) where
   -- a block names the line at a place if it names the line that is got there, and no line where none is
-  pub named : (lines : List (Line Row)) (i : ℕ) (got : Option (Line Row)) (r : Bool) → got ≡ slice_get lines i → MatchOption got (r ≡ false) (λ line. r ≡ admits_line k (rule_of k line) bits cell) → r ≡ admits_line k (get_or (rules_of k lines) i None) bits cell
-  named [] i None r e told = told
-  named [] i (Some line) r e told = cc
-  named (first ∷ lines) zero None r e told = cc
-  named (first ∷ lines) zero (Some line) r e told = let same : line ≡ first = cc in told ∙ ap (λ (l : Line Row). admits_line k (rule_of k l) bits cell) same
-  named (first ∷ lines) (suc i) got r e told = named lines i got r e told
+  pub named : (lines : List (Line Row)) (i : ℕ) (r : Bool) → MatchOption (slice_get lines i) (r ≡ false) (λ line. r ≡ admits_line k (rule_of k line) bits cell) → r ≡ admits_line k (get_or (rules_of k lines) i None) bits cell
+  named [] i r told = told
+  named (first ∷ lines) zero r told = told
+  named (first ∷ lines) (suc i) r told = named lines i r told
 
 -- a plan has as many rules as lines, and so few that all entries of its table together are few
 module _ {Header Rule Row : Type 0} (k : Meaning Header Rule Row) (plan : Plan Row) where

@@ -18,13 +18,11 @@ module _ {Header Rule Row : Type 0} (k : Meaning Header Rule Row) where
     abbrev pub block_below : ℕ → List ℕ
     block_below line = filter keeps (take line (range_with_len 0 (length rules)))
 
-    counted_line : (i : ℕ) → i < length rules → get_or (range_with_len 0 (length rules)) i 0 ≡ i
-    counted_line i lt = omega (arith, get_or-range_with_len 0 (length rules) i 0 lt)
-
     pub below_more : (i : ℕ) (t : Bool) → i < length rules → keeps i ≡ t → block_below (i + 1) ≡ block_below i ++ cond t (i ∷ []) []
     below_more i t lt e =
+        let here : get_or (range_with_len 0 (length rules)) i 0 ≡ i = omega (arith, get_or-range_with_len 0 (length rules) i 0 lt) in
         filter_more keeps (range_with_len 0 (length rules)) i 0 (omega (arith, length-range_with_len 0 (length rules)))
-        ∙ ap (λ (j : ℕ). block_below i ++ cond (keeps j) (j ∷ []) []) (counted_line i lt)
+        ∙ ap (λ (j : ℕ). block_below i ++ cond (keeps j) (j ∷ []) []) here
         ∙ ap (λ (b : Bool). block_below i ++ cond b (i ∷ []) []) e
 
     pub below_all : (i : ℕ) → length rules ≤ i → block_below i ≡ block k rules bits cell
@@ -55,13 +53,13 @@ module _ {Header Rule Row : Type 0} (k : Meaning Header Rule Row) (rules : List 
       ext_get_or 0 (take (2 ^ length bits) xs) (sizes k rules bits) (long ∙ sym length-sizes)
       (λ c lt. let below : c < 2 ^ length bits = omega arith in get_or-take (2 ^ length bits) xs c 0 below ∙ each c below ∙ sym (get_or-sizes c below))
 
-  pub size_few : (c : ℕ) → length (block k rules bits c) ≤ length rules
+  size_few : (c : ℕ) → length (block k rules bits c) ≤ length rules
   size_few c =
       let keeps = λ (line : ℕ). admits_line k (get_or rules line None) bits c in
       omega (arith, length-filter keeps (range_with_len 0 (length rules)), count_by-le-length keeps (range_with_len 0 (length rules)), length-range_with_len 0 (length rules))
 
   -- all entries together: at most every line in every cell
-  pub entries_few : sum (sizes k rules bits) ≤ 2 ^ length bits * length rules
+  entries_few : sum (sizes k rules bits) ≤ 2 ^ length bits * length rules
   entries_few =
       let ss = sizes k rules bits in
       let each = All-from_get_or (λ size. size ≤ length rules) ss 0 (λ c lt. omega (arith, get_or-sizes c (omega (arith, length-sizes)), size_few c)) in

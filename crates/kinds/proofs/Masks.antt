@@ -1,6 +1,7 @@
 -- Bits under a mask.
 use Rattle.std.proofs.Common.{◌≡◌, ℕ, zero, suc, ◌-◌, ◌/◌, ◌%◌, ◌^◌, ◌<◌, Bool, true, false, cond, ◌&&◌, eqb, sym, refl, ap, ◌∙◌, arith}
 use mathlib.Core.Bool.{beq}
+use Rattle.std.proofs.Math.Bool.{and-true}
 use lib.Bits.{bit_and}
 use Rattle.std.proofs.lemmas.Nat.{and_shr, and_mod, mod_below}
 use Rattle.std.proofs.lemmas.Bool.{eqb-true}
@@ -15,7 +16,7 @@ one_and zero (suc (suc v)) p q = absurd (omega arith)
 one_and (suc zero) (suc (suc v)) p q = absurd (omega arith)
 one_and (suc (suc u)) v p q = absurd (omega arith)
 
-pub digit_and : (a b place : ℕ) → digit (bit_and a b) place ≡ (digit a place && digit b place)
+digit_and : (a b place : ℕ) → digit (bit_and a b) place ≡ (digit a place && digit b place)
 digit_and a b place =
     ap (λ (n : ℕ). eqb (n % 2) 1) (and_shr a b place)
     ∙ ap (λ (n : ℕ). eqb n 1) (and_mod (a / 2 ^ place) (b / 2 ^ place) 1)
@@ -27,12 +28,8 @@ own_bit true true own e = ap (beq true) (sym (e refl))
 own_bit true false own e = ap (beq false) (sym (e refl))
 own_bit false bit own e = refl
 
-and_true : (x y : Bool) → y ≡ true → (x && y) ≡ x
-and_true true y e = e
-and_true false y e = refl
-
 -- a number that matches under a mask has, at each bit, a value that is admitted
 pub mask_agrees : (width value mask n b : ℕ) → mask_matches value mask n ≡ true → mask_admits width value mask b (bit_of width n b) ≡ true
 mask_agrees width value mask n b e =
     own_bit (bit_of width mask b) (bit_of width n b) (bit_of width value b) (λ t.
-    sym (ap (λ (x : ℕ). bit_of width x b) (sym (eqb-true (bit_and n mask) value e)) ∙ digit_and n mask (width - 1 - b) ∙ and_true (bit_of width n b) (bit_of width mask b) t))
+    sym (ap (λ (x : ℕ). bit_of width x b) (sym (eqb-true (bit_and n mask) value e)) ∙ digit_and n mask (width - 1 - b) ∙ ap (λ (t : Bool). bit_of width n b && t) t ∙ and-true (bit_of width n b)))

@@ -1,12 +1,12 @@
 -- Blocks behind one another: how long they are together, and where each of them lies.
 use Rattle.std.proofs.Common.{◌≡◌, ℕ, zero, suc, ◌+◌, ◌<◌, List, [], ◌∷◌, ◌++◌, map, length, get_or, take, drop, sum, sym, refl, ap, ◌∙◌, arith}
 use Rattle.std.specs.List.{flat_map}
-use Rattle.std.proofs.lemmas.List.{length-append, append_assoc, take_at, drop_at, drop-drop}
-use Rattle.std.proofs.lemmas.List.Sums.{sum_by-cons}
+use Rattle.std.proofs.lemmas.List.{append_assoc, take_at, drop_at, drop-drop}
+use Rattle.std.proofs.lemmas.List.Sums.{sum_by-cons, sum-map}
+use Rattle.std.proofs.lemmas.List.Concat.{length-flat_map}
 
 pub length_joined : (bs : List (List ℕ)) → length (flat_map (λ b. b) bs) ≡ sum (map length bs)
-length_joined [] = refl
-length_joined (b ∷ bs) = length-append b (flat_map (λ b. b) bs) ∙ ap (λ n. length b + n) (length_joined bs) ∙ sym (sum_by-cons (λ x. x) (length b) (map length bs))
+length_joined bs = length-flat_map (λ b. b) bs ∙ sym (sum-map length bs)
 
 pub drop_past : (b c : List ℕ) (n m : ℕ) → m ≡ length b + n → drop m (b ++ c) ≡ drop n c
 drop_past b c n m e = ap (λ x. drop x (b ++ c)) e ∙ sym (drop-drop n (length b) (b ++ c)) ∙ ap (drop n) (drop_at b c (length b) refl)

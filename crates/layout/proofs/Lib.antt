@@ -1,7 +1,6 @@
 pub mod Starts
 pub mod Joined
 pub mod Laid
-mod Areas
 mod Writes
 mod Tries
 mod Walk

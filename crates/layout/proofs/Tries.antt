@@ -1,6 +1,5 @@
--- Trying entries one by one, step by step.
-use Rattle.std.proofs.Common.{◌≡◌, ℕ, ◌+◌, ◌<◌, ◌≤◌, Bool, cond, List, [], ◌∷◌, length, get_or, drop, Some, None, Ok, Err, Option, Result, sym, refl, ap, ◌∙◌, subst, arith}
-use Rattle.std.proofs.lemmas.List.{at_drop_more, at_drop_all}
+-- What a walk over entries of any content means.
+use Rattle.std.proofs.Common.{◌≡◌, ℕ, ◌+◌, List, [], ◌∷◌, get_or, Some, None, Ok, Err, Option, Result, sym, refl, ap, ◌∙◌, subst, arith}
 use Rattle.std.proofs.lemmas.Bool.{cond_both}
 use Rattle.kinds.specs.Meaning.{Meaning}
 use Rattle.kinds.specs.Checks.{◌and_then◌}
@@ -9,26 +8,6 @@ use Rattle.layout.specs.LookUp.{try_entry, walked, Misses, WalksTo, Walks, Looks
 use Rattle.layout.specs.declared.spoilt.Spoilt.{Spoilt}
 use Rattle.layout.specs.declared.spoilt.Spoilt.TheVariants.{Bounds, Entry}
 
-module _ {Header Rule Row : Type 0} (k : Meaning Header Rule Row) (rules : List (Option Rule)) (h : Header) (entries : List ℕ) (i : ℕ) where
-  abbrev line : ℕ
-  line = get_or entries i 0
-
-  abbrev behind : Result (Option ℕ × ℕ) Spoilt
-  behind = walked k rules h (i + 1) (drop (i + 1) entries)
-
-  tried : (o : Option Rule) → i < length entries → o ≡ get_or rules line None → walked k rules h i (drop i entries) ≡ try_entry k o h (Some line, i + 1) behind
-  tried o lt e = at_drop_more (walked k rules h i) entries i 0 lt ∙ ap (λ (x : Option Rule). try_entry k x h (Some line, i + 1) behind) (sym e)
-
-  pub tried_empty : i < length entries → None ≡ get_or rules line None → walked k rules h i (drop i entries) ≡ Err Entry
-  tried_empty lt e = tried None lt e
-
-  pub tried_filled : (r : Rule) (t : Bool) → i < length entries → Some r ≡ get_or rules line None → t ≡ k.matches r h → walked k rules h i (drop i entries) ≡ cond t (Ok (Some line, i + 1)) behind
-  tried_filled r t lt e m = tried (Some r) lt e ∙ ap (λ (x : Bool). cond x (Ok (Some line, i + 1)) behind) (sym m)
-
-  pub tried_all : length entries ≤ i → i ≤ length entries → walked k rules h i (drop i entries) ≡ Ok (None, length entries)
-  tried_all ge le = at_drop_all (walked k rules h i) entries i ge ∙ ap (λ (n : ℕ). Ok (None, n)) (omega arith)
-
--- what a walk over entries of any content means
 module _ {Header Rule Row : Type 0} (k : Meaning Header Rule Row) (rules : List (Option Rule)) (h : Header) where
   module _ (line t : ℕ) (behind : List ℕ) where
     one_more_to : (missed : Misses k rules h line) (o : Option ℕ) (end : ℕ) → WalksTo k rules h (t + 1) behind o end → WalksTo k rules h t (line ∷ behind) o end

@@ -4,6 +4,7 @@ use Rattle.std.specs.Prelude.{◌≡◌, ℕ, ◌+◌, ◌-◌, ◌*◌, ◌/◌
 use Rattle.std.proofs.Math.Path.{ap}
 use Rattle.std.proofs.Common.{sym, ◌∙◌, arith}
 use Rattle.std.specs.Bool.{beq}
+use Rattle.std.specs.Cmp.{booleans_Decides}
 use Rattle.std.proofs.Math.Bool.{Bool-discrete}
 use Rattle.std.proofs.Math.Nat.{add-mul}
 use Rattle.std.proofs.lemmas.Nat.{pow_pos, shl-shr, div-add-mod', mod_below, le-div, mul-le}
@@ -13,23 +14,11 @@ use Rattle.kinds.specs.Bits.{digit, bit_of}
 use Rattle.routed.specs.Ranges.{in_range, SomePort, some_below, range_admits, ends_admit}
 use Rattle.routed.specs.declared.ports.PortRange.{PortRange}
 
-decides_true : (t : Bool) → Decides t (t ≡ true)
-decides_true t = ((λ e. e), (λ e. e))
-
-decides_beq : (x y : Bool) → Decides (beq x y) (x ≡ y)
-decides_beq true true = ((λ e. refl), (λ e. refl))
-decides_beq true false = ((λ e. sym e), (λ e. sym e))
-decides_beq false true = ((λ e. e), (λ e. e))
-decides_beq false false = ((λ e. refl), (λ e. refl))
-
 odd_next : (n : ℕ) → ((n + 1) % 2 == 1) ≡ not (n % 2 == 1)
 odd_next n = grind (arith, nat_tests)
 
 not_same : (x y : Bool) → (x ≢ y) → not x ≡ y
-not_same true true ne = absurd (ne refl)
-not_same true false ne = refl
-not_same false true ne = refl
-not_same false false ne = absurd (ne refl)
+not_same x y ne = grind (arith, nat_tests)
 
 -- the numbers from low to high, divided by q, count from low / q to high / q
 module _ (low high k : ℕ) (ordered : low ≤ high) where
@@ -76,7 +65,7 @@ module _ (r : PortRange) (b : ℕ) (v : Bool) where
       (λ port. in_range r port && beq (bit_of 16 port b) v)
       (λ port. (in_range r port ≡ true) × (bit_of 16 port b ≡ v))
       (some_below (λ port. in_range r port && beq (bit_of 16 port b) v))
-      (λ port. Decides-and (in_range r port) (beq (bit_of 16 port b) v) (decides_true (in_range r port)) (decides_beq (bit_of 16 port b) v))
+      (λ port. Decides-and (in_range r port) (beq (bit_of 16 port b) v) ((λ e. e), (λ e. e)) (booleans_Decides (bit_of 16 port b) v))
       refl (λ _. refl) (r.high + 1))
 
   in_range_between : (n : ℕ) → r.low ≤ n → n ≤ r.high → in_range r n ≡ true
@@ -95,11 +84,11 @@ module _ (r : PortRange) (b : ℕ) (v : Bool) where
 
   ends_agree : r.low / 2 ^ (15 - b) ≡ r.high / 2 ^ (15 - b) → Decides (beq (bit_of 16 r.low b) v) (SomePort r b v)
   ends_agree same = (
-    (λ e. (r.low, in_range_between r.low (omega arith) r.ordered, (decides_beq (bit_of 16 r.low b) v).0 e)),
+    (λ e. (r.low, in_range_between r.low (omega arith) r.ordered, (booleans_Decides (bit_of 16 r.low b) v).0 e)),
     (λ some.
         let parts = and_parts (nat_le r.low some.0) (nat_le some.0 r.high) some.1 in
         let e = quotient_between r.low r.high (15 - b) r.ordered some.0 (leb-true r.low some.0 parts.0) (leb-true some.0 r.high parts.1) same in
-        (decides_beq (bit_of 16 r.low b) v).1 (ap (λ (n : ℕ). nat_eq (n % 2) 1) (sym e) ∙ some.2)),
+        (booleans_Decides (bit_of 16 r.low b) v).1 (ap (λ (n : ℕ). nat_eq (n % 2) 1) (sym e) ∙ some.2)),
   )
 
   ends_decide : (t : Bool) → Decides t (r.low / 2 ^ (15 - b) ≡ r.high / 2 ^ (15 - b)) → Decides (not t || beq (bit_of 16 r.low b) v) (SomePort r b v)

@@ -4,8 +4,6 @@ use Rattle.blocks.proofs.cell.admits_cell.Given as goal
 
 abbrev pub invariant-loop-bit : goal.invariant-loop-bit
 invariant-loop-bit g l = record {
-  can_next : (goal.iterator-loop-bit g).can_next l.bit-iterator;
-  is_finite : (goal.iterator-loop-bit g).is_finite l.bit-iterator;
   few : length l.bit-iterator ≤ 12;
   behind : l.behind ≡ length l.bit-iterator;
   left : admits_cell g.K.Kind.meaning l.rule l.bits l.cell ≡ admits_cell g.K.Kind.meaning l.rule l.bit-iterator l.cell;

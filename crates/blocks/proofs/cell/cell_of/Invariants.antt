@@ -1,11 +1,6 @@
-use Rattle.std.proofs.Common.{◌≡◌, ◌+◌, ◌*◌, ◌^◌, ◌≤◌, length}
+use Rattle.std.proofs.Common.{◌≡◌, ◌+◌, ◌*◌, ◌^◌, length}
 use Rattle.blocks.specs.Cells.{cell_of}
 use Rattle.blocks.proofs.cell.cell_of.Given as goal
 
 abbrev pub invariant-loop-bit : goal.invariant-loop-bit
-invariant-loop-bit g l = record {
-  can_next : (goal.iterator-loop-bit g).can_next l.bit-iterator;
-  is_finite : (goal.iterator-loop-bit g).is_finite l.bit-iterator;
-  few : length l.bits ≤ 12;
-  left : l.cell * 2 ^ length l.bit-iterator + cell_of g.K.Kind.meaning l.bit-iterator l.header ≡ cell_of g.K.Kind.meaning l.bits l.header;
-}
+invariant-loop-bit g l = l.cell * 2 ^ length l.bit-iterator + cell_of g.K.Kind.meaning l.bit-iterator l.header ≡ cell_of g.K.Kind.meaning l.bits l.header

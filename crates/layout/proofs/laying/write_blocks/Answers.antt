@@ -1,24 +1,16 @@
-use Rattle.std.proofs.Common.{length, arith}
-use Rattle.blocks.specs.Plans.{rules_in}
+use Rattle.std.proofs.Common.{arith}
 use Rattle.layout.specs.Writing.{written}
-use Rattle.layout.proofs.Areas.{same_behind}
-use Rattle.layout.proofs.Writes.{block_room, block_written, blocks_written}
+use Rattle.layout.proofs.Writes.{same_behind, block_room, block_written, blocks_written}
 use Rattle.layout.proofs.laying.write_blocks.Goals as goal
 
 pub write_block-requires : goal.write_block-requires
-write_block-requires g c =
-    let plan = c.args.plan.now in
-    omega (arith, c.loop-cell.invariant.kept.len, block_room g.K.Kind.meaning (rules_in g.K.Kind.meaning plan) plan.bits.now c.loop-cell.cell (length c.args.out.now.area.now) (written c.args.out.now) (written c.loop-cell.out) c.loop-cell.invariant.entries (omega arith) c.requires)
+write_block-requires g c = omega (arith, c.loop-cell.invariant.kept.len, block_room g.K.Kind.meaning c.args.plan.now _ _ _ c.loop-cell.invariant.entries (omega arith) c.requires)
 
 pub loop-cell-preserved : goal.loop-cell-preserved
-loop-cell-preserved g c =
-    let plan = c.args.plan.now in
-    record {
-      entries = block_written g.K.Kind.meaning (rules_in g.K.Kind.meaning plan) plan.bits.now c.loop-cell.cell 0 (written c.args.out.now) (written c.loop-cell.out) c.loop-cell.invariant.entries (omega arith) (written c.write_block.new.out) c.write_block.ensures.entries;
-      kept = same_behind _ _ _ c.loop-cell.invariant.kept c.write_block.ensures.kept;
-    }
+loop-cell-preserved g c = record {
+  entries = block_written g.K.Kind.meaning c.args.plan.now c.loop-cell.cell _ _ c.loop-cell.invariant.entries (omega arith) (written c.write_block.new.out) c.write_block.ensures.entries;
+  kept = same_behind c.loop-cell.invariant.kept c.write_block.ensures.kept;
+}
 
 pub returns-clause-entries : goal.returns-clause-entries
-returns-clause-entries g c =
-    let plan = c.args.plan.now in
-    blocks_written g.K.Kind.meaning (rules_in g.K.Kind.meaning plan) plan.bits.now c.loop-cell.cell (written c.args.out.now) (written c.loop-cell.out) (omega arith) c.loop-cell.invariant.entries
+returns-clause-entries g c = blocks_written g.K.Kind.meaning c.args.plan.now c.loop-cell.cell _ _ (omega arith) c.loop-cell.invariant.entries

@@ -30,5 +30,5 @@ pub returns : goal.returns
 returns g c =
     let plan = c.args.plan.now in
     let long = c.write_blocks.ensures.kept.len ∙ c.write_starts.ensures.kept.len ∙ ap length c.new-out.ensures.holds in
-    let final = all_written g.K.Kind.meaning (rules_in g.K.Kind.meaning plan) plan.bits.now c.args.sizes.now (written c.new-out.result) (written c.write_starts.new.out) (written c.write_blocks.new.out) c.write_blocks.new.out.area.now _ c.write_blocks.new.out.at (length c.args.area.now) c.requires.counted c.new-out.ensures.none c.write_starts.ensures.starts c.write_blocks.ensures.entries refl long c.requires.room c.drop-out.ensures in
+    let final = all_written g.K.Kind.meaning plan c.write_blocks.new.out.area.now c.write_blocks.new.out.at c.requires.counted c.new-out.ensures.none c.write_starts.ensures.starts c.write_blocks.ensures.entries refl long c.requires.room c.drop-out.ensures in
     search (rules, final, c.write_starts.ensures.kept.name, c.write_blocks.ensures.kept.name)

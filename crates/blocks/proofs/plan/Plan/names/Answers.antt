@@ -5,5 +5,5 @@ use Rattle.blocks.proofs.plan.Plan.names.Goals as goal
 
 pub returns : goal.returns
 returns g c =
-    named g.K.Kind.meaning c.args.self.now.bits.now c.args.cell (changed c.args.self.now.change c.args.self.now.lines.now) c.args.line c.line.result c.is_some_and.result c.line.ensures
-    (search rules)
+    named g.K.Kind.meaning c.args.self.now.bits.now c.args.cell (changed c.args.self.now.change c.args.self.now.lines.now) c.args.line c.is_some_and.result
+    (rw (← c.line.ensures) (search rules))
