@@ -8,9 +8,7 @@ const FRAME: [u8; 15] = [0x80, 1, 2, 3, 4, 5, 6, 7, 8, 9, 10, 11, 0x08, 0x01, 0x
 
 #[test]
 fn reads_frames(rt: HostRuntime) -> Result<(), Fail> {
-    let Ok(header) = Header::read(&FRAME) else {
-        return Err(Fail::new("refused"));
-    };
+    let header = Header::read(&FRAME)?;
     assert_eq!(rt; header.octets.first, 0x8001_0203_0405_0607);
     assert_eq!(rt; header.octets.middle, 0x0809_0a0b);
     assert_eq!(rt; header.octets.last, 0x0801);

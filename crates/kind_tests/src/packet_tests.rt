@@ -12,17 +12,14 @@ fn packet(first: u8, protocol: u8) -> [u8; 28] {
 }
 
 fn ports(packet: &[u8]) -> Option<(u16, u16)> {
-    match Header::read(packet) {
-        Ok(header) => Some((header.source_port, header.destination_port)),
-        Err(_) => None,
-    }
+    Header::read(packet)
+        .ok()
+        .map(|header| (header.source_port, header.destination_port))
 }
 
 #[test]
 fn reads_fields(rt: HostRuntime) -> Result<(), Fail> {
-    let Ok(header) = Header::read(&packet(0x45, 6)) else {
-        return Err(Fail::new("refused"));
-    };
+    let header = Header::read(&packet(0x45, 6))?;
     assert_eq!(rt; header.source, 0x0a00_0001);
     assert_eq!(rt; header.destination, 0x0a00_0002);
     assert_eq!(rt; header.protocol, 6);

@@ -14,9 +14,7 @@ fn twelve() -> Option<Bits> {
 
 #[test]
 fn joins_bits(rt: HostRuntime) -> Result<(), Fail> {
-    let Some(bits) = pair(5, 3) else {
-        return Err(Fail::new("refused"));
-    };
+    let bits = pair(5, 3).ok_or("refused")?;
     assert_eq!(rt; bits.len(), 2);
     assert_eq!(rt; bits.cells(), 4);
     assert_eq!(rt; bits.at(0), 3);
@@ -29,12 +27,8 @@ fn joins_bits(rt: HostRuntime) -> Result<(), Fail> {
 
 #[test]
 fn exchanges_bits(rt: HostRuntime) -> Result<(), Fail> {
-    let Some(bits) = pair(3, 5) else {
-        return Err(Fail::new("refused"));
-    };
-    let Some(other) = bits.exchanged(3, 9) else {
-        return Err(Fail::new("not exchanged"));
-    };
+    let bits = pair(3, 5).ok_or("refused")?;
+    let other = bits.exchanged(3, 9).ok_or("not exchanged")?;
     assert_eq!(rt; other.len(), 2);
     assert_eq!(rt; other.at(0), 5);
     assert_eq!(rt; other.at(1), 9);
@@ -49,14 +43,10 @@ fn exchanges_bits(rt: HostRuntime) -> Result<(), Fail> {
 
 #[test]
 fn fills_a_set(rt: HostRuntime) -> Result<(), Fail> {
-    let Some(bits) = twelve() else {
-        return Err(Fail::new("refused"));
-    };
+    let bits = twelve().ok_or("refused")?;
     assert_eq!(rt; bits.cells(), 4096);
     assert!(rt; bits.with(12).is_none(), "a thirteenth bit");
-    let Some(other) = bits.exchanged(0, 12) else {
-        return Err(Fail::new("not exchanged"));
-    };
+    let other = bits.exchanged(0, 12).ok_or("not exchanged")?;
     assert_eq!(rt; other.at(0), 1);
     assert_eq!(rt; other.at(11), 12);
     Ok(())

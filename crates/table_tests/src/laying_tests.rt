@@ -7,9 +7,7 @@ use std::test::Fail;
 
 #[test]
 fn refuses_a_small_area(rt: HostRuntime) -> Result<(), Fail> {
-    let Some(bits) = pair(1, 2) else {
-        return Err(Fail::new("no bits"));
-    };
+    let bits = pair(1, 2).ok_or("no bits")?;
     let mut area = [7u32; 16];
     let mut tally = [5u32; 6];
     let laid = layout::lay::<Bridge>(&seven_lines::lines(), &bits, &mut area, &mut tally);
@@ -21,9 +19,7 @@ fn refuses_a_small_area(rt: HostRuntime) -> Result<(), Fail> {
 
 #[test]
 fn refuses_a_short_tally(rt: HostRuntime) -> Result<(), Fail> {
-    let Some(bits) = pair(1, 2) else {
-        return Err(Fail::new("no bits"));
-    };
+    let bits = pair(1, 2).ok_or("no bits")?;
     let mut area = [7u32; 17];
     let mut tally = [5u32; 3];
     let laid = layout::lay::<Bridge>(&seven_lines::lines(), &bits, &mut area, &mut tally);
@@ -44,9 +40,7 @@ fn refuses_many_lines(rt: HostRuntime) {
 
 #[test]
 fn lays_into_used_memory(rt: HostRuntime) -> Result<(), Fail> {
-    let Some(bits) = pair(1, 2) else {
-        return Err(Fail::new("no bits"));
-    };
+    let bits = pair(1, 2).ok_or("no bits")?;
     let mut area = [9u32; 20];
     let mut tally = [9u32; 5];
     let laid = layout::lay::<Bridge>(&seven_lines::lines(), &bits, &mut area, &mut tally);

@@ -55,9 +55,7 @@ fn finds_spoilt_entries(rt: HostRuntime) {
 
 #[test]
 fn finds_an_empty_line(rt: HostRuntime) -> Result<(), Fail> {
-    let Some(bits) = pair(1, 2) else {
-        return Err(Fail::new("no bits"));
-    };
+    let bits = pair(1, 2).ok_or("no bits")?;
     let mut lines = seven_lines::lines();
     lines[3].mark = false;
     let found = layout::look_up::<Bridge>(&lines, &bits, &AREA, &seven_lines::header(0xe0));

@@ -1,6 +1,6 @@
 // The seven bridge lines, and frames that are answered by the first that matches.
 use super::{list, say};
-use bridge::{Bridge, Header, Row, Rule};
+use bridge::{Bridge, Row};
 use kinds::Line;
 use std::io;
 
@@ -12,7 +12,7 @@ fn make_lines(rt: &HostRuntime) -> io::Result<Vec<Line<Row>>> {
         let value = row.value.first >> 56;
         let mask = row.mask.first >> 56;
         println!(rt; "Line {number}: value {value:02x}, mask {mask:02x}")?;
-        match list::line::<Bridge, _>(Rule::try_from(row)) {
+        match list::line::<Bridge>(row) {
             Ok(line) => lines.push(line)?,
             Err(fault) => say::refusal(rt, fault)?,
         }
@@ -25,8 +25,8 @@ pub(crate) fn run(rt: &HostRuntime) -> io::Result<()> {
     let lines = make_lines(rt)?;
     for first in [0xe0u8, 0x50, 0xa0] {
         println!(rt; "Frame beginning {first:02x}")?;
-        let header = Header::read(&seven_lines::frame(first));
-        say::answer(rt, list::answer::<Bridge, _>(&lines, header))?;
+        let answer = list::answer::<Bridge>(&lines, &seven_lines::frame(first));
+        say::answer(rt, answer)?;
     }
     Ok(())
 }

@@ -1,7 +1,7 @@
 // A small routed list that guards a print server, and packets that are answered by the first line that matches.
 use super::{list, samples, say};
 use kinds::Line;
-use routed::{Header, Routed, Row, Rule};
+use routed::{Header, Routed, Row};
 use std::io;
 use std::net::Ipv4Addr;
 
@@ -72,7 +72,7 @@ fn make_lines(rt: &HostRuntime) -> io::Result<Vec<Line<Row>>> {
     let mut lines = Vec::new(rt.alloc());
     for row in ROWS {
         say_row(rt, &row)?;
-        match list::line::<Routed, _>(Rule::try_from(row)) {
+        match list::line::<Routed>(row) {
             Ok(line) => {
                 let number = lines.len();
                 lines.push(line)?;
@@ -97,11 +97,10 @@ fn say_header(rt: &impl Print, header: &Header) -> io::Result<()> {
 
 fn filter(rt: &impl Print, lines: &[Line<Row>], name: &str, packet: &[u8]) -> io::Result<()> {
     println!(rt; "Packet: {name}")?;
-    let header = Header::read(packet);
-    if let Ok(header) = &header {
-        say_header(rt, header)?;
+    if let Ok(header) = Header::read(packet) {
+        say_header(rt, &header)?;
     }
-    say::answer(rt, list::answer::<Routed, _>(lines, header))
+    say::answer(rt, list::answer::<Routed>(lines, packet))
 }
 
 pub(crate) fn run(rt: &HostRuntime) -> io::Result<()> {

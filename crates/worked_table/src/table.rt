@@ -19,8 +19,8 @@ const ROOM: usize = 17;
 
 // Lines, and the bits that their table goes by.
 #[derive(Drop)]
-struct Book {
-    lines: [Line<Row>; 7],
+struct Book<const N: usize> {
+    lines: [Line<Row>; N],
     bits: Bits,
 }
 
@@ -33,9 +33,9 @@ fn pair(first: usize, second: usize) -> Bits
     Bits::none().with(first).unwrap().with(second).unwrap()
 }
 
-impl Book {
+impl Book<7> {
     // The seven lines and two bits.
-    fn new(first: usize, second: usize) -> Book
+    fn new(first: usize, second: usize) -> Book<7>
         requires rising { first < second }
         requires below { second < 1024 }
         ensures { result.bits ≡ first ∷ second ∷ [] }
@@ -45,7 +45,9 @@ impl Book {
             bits: pair(first, second),
         }
     }
+}
 
+impl<const N: usize> Book<N> {
     // The line that answers a frame from an area, or none, with the entries tried.
     fn answer(
         &self,
@@ -60,7 +62,7 @@ impl Book {
 
     // Strikes a line: clears its mark, and leaves its row.
     fn strike(&mut self, line: usize)
-        requires { line < 7 }
+        requires { line < N }
         ensures lines { rules_of bridge self.new.lines ≡ slice_set (rules_of bridge self.old.lines) line None }
         ensures bits { self.new.bits ≡ self.old.bits }
     {
@@ -120,7 +122,7 @@ impl Book {
 
     // Strikes a line, lays the table anew, and says what answers a frame then.
     fn say_without(&mut self, rt: &impl Print, line: usize) -> io::Result<()>
-        requires { line < 7 }
+        requires { line < N }
     {
         println!(rt; "Line {line} is struck")?;
         self.strike(line);
