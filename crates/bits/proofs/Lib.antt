@@ -3,3 +3,4 @@ mod Joining
 mod Leaving
 mod Places
 mod Same
+pub mod Facts

@@ -1,9 +1,9 @@
 // A set of bits: its type, what it tells, and the sets that one more bit or an exchange gives.
-ghost use Rattle.std.specs.Prelude.{Some, None, ◌≡◌, ℕ, ◌^◌, ◌<◌, ◌≤◌, true, ◌&&◌, [], length, if◌then◌else◌, nat_lt, slice_index, slice_index_or};
+ghost use Rattle.std.specs.Prelude.{Some, None, IfSome, ◌≡◌, ℕ, ◌^◌, ◌<◌, ◌≤◌, true, ◌&&◌, [], length, if◌then◌else◌, nat_lt, slice_index, slice_index_or};
 ghost use Rattle.std.specs.List.{All};
 ghost use Rattle.std.specs.Iterator.{YieldsFirst, item_count};
 ghost use Rattle.bits.specs.Sets.{rising, member, with_bit, without_bit};
-ghost use Rattle.bits.specs.Chosen.{joins};
+ghost use Rattle.bits.specs.Chosen.{IsBits, joins};
 
 use std::marker::Model;
 use std::ops::Range;
@@ -47,7 +47,8 @@ impl Model for Bits {
 impl Bits {
     // No bit at all.
     pub fn none() -> Bits
-        ensures { result ≡ [] }
+        ensures set { result ≡ [] }
+        ensures bits { IsBits result }
     {
         Bits {
             count: 0,
@@ -118,9 +119,7 @@ impl Bits {
     // The bits in rising order.
     pub fn iter(&self) -> Iter
         ensures left { result ≡ self.now }
-        ensures few { length result ≤ 12 }
-        ensures rises { rising result ≡ true }
-        ensures below { All (λ bit. bit < 1024) result }
+        ensures bits { IsBits result }
     {
         Iter {
             bits: *self,
@@ -137,7 +136,8 @@ impl Bits {
 
     // The set with one bit more, or none where it is full, has the bit, or the bit is 1,024 or above.
     pub fn with(&self, bit: usize) -> Option<Bits>
-        ensures { result ≡ (if nat_lt (length self.now) 12 && joins bit self.now then Some (with_bit bit self.now) else None) }
+        ensures set { result ≡ (if nat_lt (length self.now) 12 && joins bit self.now then Some (with_bit bit self.now) else None) }
+        ensures bits { IfSome result IsBits }
     {
         if self.count < 12 && self.admits(bit) {
             Some(self.joined(bit as u16))
@@ -149,7 +149,8 @@ impl Bits {
     // The set with one bit exchanged for another, or none where the one is not in it or the other may not join.
     #[tactic(auto, using(crate::proofs::Leaving::joins_without))]
     pub fn exchanged(&self, out: usize, joining: usize) -> Option<Bits>
-        ensures { result ≡ (if member out self.now && joins joining self.now then Some (with_bit joining (without_bit out self.now)) else None) }
+        ensures set { result ≡ (if member out self.now && joins joining self.now then Some (with_bit joining (without_bit out self.now)) else None) }
+        ensures bits { IfSome result IsBits }
     {
         if self.has(out) && self.admits(joining) {
             Some(self.parted(out).joined(joining as u16))
@@ -169,7 +170,8 @@ impl Bits {
     fn joined(&self, bit: u16) -> Bits
         requires room { length self.now < 12 }
         requires new { joins bit self.now ≡ true }
-        ensures { result ≡ with_bit bit self.now }
+        ensures set { result ≡ with_bit bit self.now }
+        ensures bits { IsBits result }
     {
         let p0 = bit.min(self.b0);
         let c1 = bit.max(self.b0);
@@ -214,8 +216,9 @@ impl Bits {
     // The set without one of its bits: from that bit on, each place takes what the next one holds.
     fn parted(&self, out: usize) -> Bits
         requires { member out self.now ≡ true }
-        ensures bits { result ≡ without_bit out self.now }
+        ensures set { result ≡ without_bit out self.now }
         ensures room { length result < 12 }
+        ensures bits { IsBits result }
     {
         let p0 = kept(self.b0, self.b1, out);
         let p1 = kept(self.b1, self.b2, out);
@@ -252,7 +255,7 @@ impl IntoIterator for &Bits {
 
     type IntoIter = Iter;
 
-    ghost into_iter_gives = { λ bits left. (left ≡ bits.now) × (length left ≤ 12) × (rising left ≡ true) × All (λ bit. bit < 1024) left };
+    ghost into_iter_gives = { λ bits left. (left ≡ bits.now) × IsBits left };
 
     fn into_iter(self) -> Iter {
         Bits::iter(self)

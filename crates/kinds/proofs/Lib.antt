@@ -1,3 +1,4 @@
+pub mod Lines
 mod Lowest
 pub mod Masks
 pub mod Rows

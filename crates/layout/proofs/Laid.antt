@@ -15,7 +15,7 @@ module _ {Header Rule Row : Type 0} (k : Meaning Header Rule Row) (rules : List 
   abbrev pub start : ℕ → ℕ
   start c = sum (take c (sizes k rules bits))
 
-  start_next : (c : ℕ) → c < 2 ^ length bits → start (c + 1) ≡ start c + length (block k rules bits c)
+  pub start_next : (c : ℕ) → c < 2 ^ length bits → start (c + 1) ≡ start c + length (block k rules bits c)
   start_next c h = sum_by_more (λ x. x) (sizes k rules bits) c 0 (omega (arith, length-sizes k rules bits)) ∙ ap (λ n. start c + n) (get_or-sizes k rules bits c h)
 
   -- an area is as long as its table, and longer by the zeros behind it

@@ -5,3 +5,4 @@ mod Writes
 mod Tries
 mod Walk
 pub mod Looks
+mod Turns

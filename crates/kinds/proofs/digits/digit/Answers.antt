@@ -1,4 +1,4 @@
-use Rattle.std.proofs.Common.{◌≡◌, ◌%◌, ◌^◌, ◌≤◌, nat_eq, sym, ap, ◌∙◌, ℕ, arith, pow_mono}
+use Rattle.std.proofs.Common.{◌%◌, ◌^◌, ◌≤◌, nat_eq, sym, ap, ◌∙◌, ℕ, arith, pow_mono}
 use Rattle.std.proofs.Math.Nat.{div-eq_of_lt}
 use Rattle.std.proofs.lemmas.Bool.{le-ltb}
 use Rattle.kinds.proofs.digits.digit.Goals as goal

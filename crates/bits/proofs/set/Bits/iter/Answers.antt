@@ -1,5 +1,7 @@
-use Rattle.bits.proofs.Places.{below_used}
+use Rattle.std.proofs.Common.{refl}
+use Rattle.bits.specs.Places.{places}
+use Rattle.bits.proofs.Places.{is_bits}
 use Rattle.bits.proofs.set.Bits.iter.Goals as goal
 
-pub returns-clause-below : goal.returns-clause-below
-returns-clause-below c = below_used c.self.inside c.self.invariant
+pub returns-clause-bits : goal.returns-clause-bits
+returns-clause-bits c = is_bits c.self.inside.count (places c.self.inside) refl c.self.invariant

@@ -1,6 +1,7 @@
-use Rattle.std.proofs.Common.{◌≡◌, ℕ, List, [], ◌∷◌}
+use Rattle.std.proofs.Common.{◌≡◌, ℕ, List, [], ◌∷◌, refl}
 use Rattle.bits.specs.Places.{places}
 use Rattle.bits.proofs.Joining.{handed_on, bits_joined, joined_sound}
+use Rattle.bits.proofs.Places.{is_bits}
 use Rattle.bits.proofs.set.Bits.joined.Goals as goal
 use Rattle.bits.proofs.set.Bits.joined.Goals.{After-min-p11}
 
@@ -13,7 +14,12 @@ is c = cc
 pub invariant_of-result : goal.invariant_of-result
 invariant_of-result c = joined_sound c.self.inside c.args.bit c.args.self.now (after c) c.self.view_is c.self.invariant (is c) c.requires.room c.requires.new
 
-pub returns : goal.returns
-returns c =
-    let d = (goal.at.returns c).After-min-p11 in
+pub returns-clause-set : goal.returns-clause-set
+returns-clause-set c =
+    let d = (goal.at.returns-clause-set c).After-min-p11 in
     bits_joined d.self.inside d.args.bit d.args.self.now (after d) d.self.view_is d.self.invariant (is d) d.requires.room d.requires.new
+
+pub returns-clause-bits : goal.returns-clause-bits
+returns-clause-bits c =
+    let d = (goal.at.returns-clause-bits c).After-min-p11 in
+    is_bits _ (after d) refl (joined_sound d.self.inside d.args.bit d.args.self.now (after d) d.self.view_is d.self.invariant (is d) d.requires.room d.requires.new)

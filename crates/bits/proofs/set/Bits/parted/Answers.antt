@@ -1,6 +1,7 @@
-use Rattle.std.proofs.Common.{◌≡◌, ℕ, List, [], ◌∷◌}
+use Rattle.std.proofs.Common.{◌≡◌, ℕ, List, [], ◌∷◌, refl}
 use Rattle.bits.specs.Places.{places}
 use Rattle.bits.proofs.Leaving.{moved_up, bits_parted, parted_sound}
+use Rattle.bits.proofs.Places.{is_bits}
 use Rattle.bits.proofs.set.Bits.parted.Goals as goal
 use Rattle.bits.proofs.set.Bits.parted.Goals.{After-kept-p11}
 
@@ -13,7 +14,12 @@ is c = cc
 pub invariant_of-result : goal.invariant_of-result
 invariant_of-result c = parted_sound c.self.inside c.args.out c.args.self.now (after c) c.self.view_is c.self.invariant (is c) c.requires
 
+pub returns-clause-set : goal.returns-clause-set
+returns-clause-set c =
+    let d = (goal.at.returns-clause-set c).After-kept-p11 in
+    bits_parted d.self.inside d.args.out d.args.self.now (after d) d.self.view_is d.self.invariant (is d) d.requires
+
 pub returns-clause-bits : goal.returns-clause-bits
 returns-clause-bits c =
     let d = (goal.at.returns-clause-bits c).After-kept-p11 in
-    bits_parted d.self.inside d.args.out d.args.self.now (after d) d.self.view_is d.self.invariant (is d) d.requires
+    is_bits _ (after d) refl (parted_sound d.self.inside d.args.out d.args.self.now (after d) d.self.view_is d.self.invariant (is d) d.requires)
