@@ -83,7 +83,7 @@ impl Bits {
         power(self.len())
     }
 
-    // The bit at a place, in rising order; 0 past the last one.
+    // The bit at a place, in rising order; 0 past the last one, as a list with a default answers, and no `Option`: no plainer for a caller who counts to `len`.
     pub fn at(&self, place: usize) -> usize
         ensures { result ≡ slice_index self.now place }
     {
@@ -159,7 +159,7 @@ impl Bits {
         }
     }
 
-    // Whether a bit may join the set.
+    // Whether a bit may join the set. One that may is below 1,024, so `as u16` in the callers loses nothing.
     fn admits(&self, bit: usize) -> bool
         ensures { result ≡ joins bit self.now }
     {
@@ -262,7 +262,7 @@ impl IntoIterator for &Bits {
     }
 }
 
-// The bits of a set that are left, in rising order.
+// The bits of a set that are left, in rising order. No `==`: nothing compares them.
 #[derive(Clone, Debug, Drop)]
 pub struct Iter {
     bits: Bits,

@@ -12,6 +12,7 @@ pub fn cell_of<K: Kind>(bits: &Bits, header: &K::Header) -> usize
     ensures answer { result ≡ cell_of K.meaning bits.now header.now }
     ensures bound { result < 2 ^ length bits.now }
 {
+    // A loop and no `fold`: tried, and that the sum in its closure fits was not proved.
     let mut cell: usize = 0;
     for bit in bits {
         cell = 2 * cell + usize::from(K::bit(header, bit));
@@ -23,6 +24,7 @@ pub fn cell_of<K: Kind>(bits: &Bits, header: &K::Header) -> usize
 fn admits_cell<K: Kind>(rule: &K::Rule, bits: &Bits, cell: usize) -> bool
     ensures { result ≡ admits_cell K.meaning rule.now bits.now cell }
 {
+    // A loop and no `all`: tried with a reversed range beside the bits, and it left a goal; the loop leaves none.
     let mut behind = bits.len();
     for bit in bits {
         behind -= 1;

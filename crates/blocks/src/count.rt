@@ -6,7 +6,7 @@ ghost use Rattle.blocks.specs.Plans.{rules_in};
 use super::plan::Plan;
 use kinds::Kind;
 
-// How many lines the block of a cell names.
+// How many lines the block of a cell names. There are few lines, so `as u32` loses nothing; the library has no count in 32 bits.
 fn block_size<K: Kind>(plan: &Plan<K::Row>, cell: usize) -> u32
     ensures { result ≡ length (block K.meaning (rules_in K.meaning plan.now) plan.now.bits.now cell) }
 {
@@ -27,7 +27,7 @@ pub(crate) fn count_sizes<K: Kind>(cells: &mut [u32], plan: &Plan<K::Row>)
     }
 }
 
-// The sum of some sizes, of which there are as many as cells at most.
+// The sum of some sizes (`as`, since there is no `From<u32>` for `usize`), of which there are as many as cells at most.
 pub(crate) fn total(sizes: &[u32]) -> usize
     requires { length sizes.now ≤ 4096 }
     ensures answer { result ≡ sum sizes.now }

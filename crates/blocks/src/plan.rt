@@ -6,7 +6,7 @@ use super::change::Change;
 use bits::Bits;
 use kinds::{Kind, Line};
 
-// Lines, at most 16,384, as they stand or with one of them replaced, and the chosen bits.
+// Lines, at most 16,384, as they stand or with one of them replaced, and the chosen bits. No `==`: nothing compares plans.
 #[derive(Drop)]
 pub struct Plan<'a, R> {
     pub lines: &'a [Line<R>],

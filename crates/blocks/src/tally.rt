@@ -18,6 +18,7 @@ use judges::Judge;
 use kinds::{Kind, Line};
 
 // It holds the lent slice, and zeroes all of it at its end, on every way out.
+// That it stays the same slice relates two states, which no type can promise: each method says so (`kept`).
 pub struct Tally<'a> {
     cells: &'a mut [u32],
 }
@@ -67,7 +68,7 @@ impl Tally<'_> {
     }
 
     // Whether the table of some lines, which may have one of them changed, fits so many places.
-    // Lines and bits and no `Plan`, here and in `cost`: a plan would ask callers for few lines, which are refused here.
+    // Lines and bits and no `Plan`, here and in `cost`: a plan would ask callers for few lines, where too many are refused.
     pub fn fits<K: Kind>(
         &mut self,
         lines: &[Line<K::Row>],

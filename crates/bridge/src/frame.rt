@@ -12,7 +12,7 @@ pub struct Header {
 }
 
 impl Header {
-    // The header of a frame, of which only the first fourteen bytes are read. So it is no `TryFrom`, which converts a whole value.
+    // The header of a frame, of which only the first fourteen bytes are read. No `TryFrom`: it would be no plainer, and say that a whole value is converted.
     pub fn read(frame: &[u8]) -> Result<Header, Fault>
         ensures { result ≡ header_of frame.now }
     {

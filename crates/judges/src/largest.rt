@@ -13,6 +13,7 @@ impl Judge for Largest {
 
     ghost below = { λ _ sizes low. largest_fits sizes low };
 
+    // A `fold` and no `max`: tried, and that the answer of `max` is the largest was not found.
     fn cost_of(&self, sizes: &[u32]) -> u64 {
         sizes
             .iter()

@@ -17,7 +17,7 @@ impl Judge for Squares {
 
     ghost below = { Prim.search rules };
 
-    // A loop and no chain: a rule of the project, so that the saturating sum is seen to stay capped at each step.
+    // A loop over the sizes with a saturating sum and no `fold`: a rule of the project.
     fn cost_of(&self, sizes: &[u32]) -> u64 {
         let mut sum: u64 = 0;
         for size in sizes {

@@ -38,7 +38,7 @@ fn first<K: Kind>(lines: &[Line<K::Row>], header: &K::Header) -> Option<usize>
         .position(|line| line_matches::<K>(line, header))
 }
 
-// The lowest filled line whose rule matches, or none, and how many lines were compared.
+// The lowest filled line whose rule matches, or none, and how many lines were compared: a pair, by a rule of the project.
 pub fn first_match<K: Kind>(lines: &[Line<K::Row>], header: &K::Header) -> (Option<usize>, usize)
     ensures answer { Lowest K.meaning (rules_of K.meaning lines.now) header.now result.0 }
     ensures compared { result.1 ≡ compared_for result.0 (length lines.now) }

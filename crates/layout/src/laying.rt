@@ -66,6 +66,7 @@ fn write_table<K: Kind>(plan: &Plan<K::Row>, sizes: &[u32], area: &mut [u32])
 }
 
 // Lays the table of some lines for a set of bits, or leaves the area as it was.
+// Lines and bits and no `Plan`: too many lines are refused here.
 pub fn lay<K: Kind>(
     lines: &[Line<K::Row>],
     bits: &Bits,

@@ -58,7 +58,8 @@ fn walk<K: Kind>(
     Ok((None, entries.len()))
 }
 
-// The line that answers a header, or none, and how many entries were tried.
+// The line that answers a header, or none, and how many entries were tried: a pair, by a rule of the project.
+// Lines and bits and no `Plan`: any number of lines may be looked through.
 pub fn look_up<K: Kind>(
     lines: &[Line<K::Row>],
     bits: &Bits,

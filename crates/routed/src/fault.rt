@@ -46,6 +46,7 @@ impl From<Fault> for FaultCode {
     ghost from_gives = { λ fault code. code ≡ code_of fault };
 
     fn from(fault: Fault) -> FaultCode {
+        // Numbers here and no discriminants, which an enum has only where no case has parts.
         let (number, place) = match fault {
             Fault::Short => (1, 0),
             Fault::Version => (2, 0),

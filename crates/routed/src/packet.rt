@@ -21,7 +21,7 @@ pub struct Header {
 
 impl Header {
     // The header of a packet. Options are skipped; checksum and total length are not examined.
-    // No `TryFrom`, which converts a whole value: what stands behind the ports is not read.
+    // No `TryFrom`: it would be no plainer, and say that a whole value is converted, where what stands behind the ports is not read.
     pub fn read(packet: &[u8]) -> Result<Header, Fault>
         ensures { result ≡ header_of packet.now }
     {

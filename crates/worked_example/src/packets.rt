@@ -53,7 +53,7 @@ const ROWS: [Row; 5] = [
     },
 ];
 
-// No `Display`, here and for headers: the type is another crate's, and a wrapper for it would be longer.
+// No `Display` in `routed`, here and for headers: the words are this program's own, and it prints them in one place.
 fn say_row(rt: &impl Print, row: &Row) -> io::Result<()> {
     println!(rt;
         "Row: {}/{} to {}/{}, ports {} to {}, protocol {} under mask {}",

@@ -17,7 +17,7 @@ use std::io;
 // How many numbers the table for the bits 1 and 2 takes.
 const ROOM: usize = 17;
 
-// Lines, and the bits that their table goes by.
+// Lines, and the bits that their table goes by. No `==`: nothing compares books.
 #[derive(Drop)]
 struct Book<const N: usize> {
     lines: [Line<Row>; N],
