@@ -14,6 +14,9 @@ use Rattle.kinds.specs.Bits.{digit, bit_of}
 use Rattle.routed.specs.Ranges.{in_range, SomePort, some_below, range_admits, ends_admit}
 use Rattle.routed.specs.declared.ports.PortRange.{PortRange}
 
+decides_true : (t : Bool) → Decides t (t ≡ true)
+decides_true t = ((λ e. e), (λ e. e))
+
 odd_next : (n : ℕ) → ((n + 1) % 2 == 1) ≡ not (n % 2 == 1)
 odd_next n = grind (arith, nat_tests)
 
@@ -65,7 +68,7 @@ module _ (r : PortRange) (b : ℕ) (v : Bool) where
       (λ port. in_range r port && beq (bit_of 16 port b) v)
       (λ port. (in_range r port ≡ true) × (bit_of 16 port b ≡ v))
       (some_below (λ port. in_range r port && beq (bit_of 16 port b) v))
-      (λ port. Decides-and (in_range r port) (beq (bit_of 16 port b) v) ((λ e. e), (λ e. e)) (booleans_Decides (bit_of 16 port b) v))
+      (λ port. Decides-and (in_range r port) (beq (bit_of 16 port b) v) (decides_true (in_range r port)) (booleans_Decides (bit_of 16 port b) v))
       refl (λ _. refl) (r.high + 1))
 
   in_range_between : (n : ℕ) → r.low ≤ n → n ≤ r.high → in_range r n ≡ true
