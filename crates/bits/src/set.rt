@@ -9,7 +9,8 @@ use std::marker::Model;
 use std::ops::Range;
 
 // At most twelve rising bits, each below 1,024. A place that is not in use holds 1,024.
-// Single numbers and no array beside a count: a rule of the project, so that a set is a plain value; its functions name each place.
+// Single numbers and no array beside a count: a rule of the project; its functions name each place.
+// What a `Model` promises its callers don't see, so each call that makes a set says it (`IsBits`).
 #[derive(Clone, Copy, Debug, PartialEq, Eq)]
 pub struct Bits {
     count: usize,
@@ -83,7 +84,7 @@ impl Bits {
         power(self.len())
     }
 
-    // The bit at a place, in rising order; 0 past the last one, as a list with a default answers, and no `Option`: no plainer for a caller who counts to `len`.
+    // The bit at a place, in rising order; 0 past the last one and no `Option`: a rule of the project, that this call answers every place with a number.
     pub fn at(&self, place: usize) -> usize
         ensures { result ≡ slice_index self.now place }
     {

@@ -28,6 +28,7 @@ fn admits_cell<K: Kind>(rule: &K::Rule, bits: &Bits, cell: usize) -> bool
     let mut behind = bits.len();
     for bit in bits {
         behind -= 1;
+        // `as`, since there is no `From<usize>` for `u64`.
         if !K::admits(rule, bit, digit(cell as u64, behind)) {
             return false;
         }

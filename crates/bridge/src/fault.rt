@@ -19,6 +19,7 @@ impl From<Fault> for FaultCode {
 
     fn from(fault: Fault) -> FaultCode {
         FaultCode {
+            // `as`, which tells the discriminant.
             number: fault as u16,
             layer: 1,
             place: 0,

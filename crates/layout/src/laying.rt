@@ -37,6 +37,7 @@ fn write_block<K: Kind>(out: &mut Writer, plan: &Plan<K::Row>, cell: usize)
 {
     for line in 0..plan.lines.len() {
         if plan.names::<K>(cell, line) {
+            // There are few lines, so `as` loses nothing.
             out.put(line as u32);
         }
     }
@@ -53,7 +54,7 @@ fn write_blocks<K: Kind>(out: &mut Writer, plan: &Plan<K::Row>)
     }
 }
 
-// Writes a whole table that was counted and fits.
+// Writes a whole table that was counted and fits. That there are few sizes is told by `Tally::sizes`, since a slice promises no length.
 fn write_table<K: Kind>(plan: &Plan<K::Row>, sizes: &[u32], area: &mut [u32])
     requires few { length sizes.now ≤ 4096 }
     requires counted { sizes.now ≡ all_sizes K.meaning (rules_in K.meaning plan.now) plan.now.bits.now }

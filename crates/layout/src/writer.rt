@@ -2,7 +2,7 @@
 ghost use Rattle.std.specs.Prelude.{◌≡◌, ◌-◌, ◌<◌, [], ◌∷◌, ◌++◌, length, replicate};
 
 // An area of which the places below `at` are written; it zeroes the others at its end.
-// A lent slice and a place and no `Vec`: a rule of the project, no heap. That it stays the same slice, each function says (`kept`).
+// A lent slice and a place and no `Vec`: a rule of the project, no heap. That it stays the same slice, which no type can promise, each function says (`kept`).
 pub(crate) struct Writer<'a> {
     area: &'a mut [u32],
     at: usize,

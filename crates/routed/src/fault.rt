@@ -52,6 +52,7 @@ impl From<Fault> for FaultCode {
             Fault::Version => (2, 0),
             Fault::HeaderLength => (3, 0),
             Fault::NoPorts => (4, 0),
+            // `as`, which tells the discriminants.
             Fault::NoRule(field, defect) => (defect as u16, field as usize),
         };
         FaultCode {

@@ -59,7 +59,7 @@ impl Kind for Routed {
         }
     }
 
-    // The same line in each kind, and no body in the trait: only a kind knows how its row becomes a rule.
+    // The same line in each kind and no body in the trait: no plainer, since the trait would need a bound for this alone.
     fn rule(row: &Row) -> Option<Rule> {
         Rule::try_from(*row).ok()
     }

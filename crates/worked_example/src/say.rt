@@ -21,6 +21,7 @@ where
     }
 }
 
+// Why a line or an answer was refused: a whole line of the program, of which `FaultCode` prints its part.
 pub(crate) fn refusal<F>(rt: &impl Print, fault: F) -> io::Result<()>
 where
     FaultCode: From<F>,

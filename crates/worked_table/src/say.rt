@@ -1,4 +1,6 @@
 // What the client prints of an answer, and of some numbers.
+use blocks::Refusal;
+use layout::Spoilt;
 use std::io;
 
 // The answer of a table: the line or `none`, and the entries tried. It prints a whole line by cases; a type with a `Display` would say no more.
@@ -7,6 +9,15 @@ pub(crate) fn tried(rt: &impl Print, line: Option<usize>, tried: usize) -> io::R
         Some(line) => println!(rt; "{line} {tried}"),
         None => println!(rt; "none {tried}"),
     }
+}
+
+// Why there is no table or no cost, and what is wrong with one: a whole line of the program.
+pub(crate) fn refusal(rt: &impl Print, refusal: Refusal) -> io::Result<()> {
+    println!(rt; "  refused: {refusal}")
+}
+
+pub(crate) fn spoilt(rt: &impl Print, spoilt: Spoilt) -> io::Result<()> {
+    println!(rt; "  spoilt: {spoilt}")
 }
 
 // Numbers to the end of the line.

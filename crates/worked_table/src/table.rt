@@ -74,7 +74,7 @@ impl<const N: usize> Book<N> {
         let mut tally = [0u32; 4];
         match layout::lay::<Bridge>(&self.lines, &self.bits, area, &mut tally) {
             Ok(()) => Ok(()),
-            Err(refusal) => println!(rt; "  refused: {refusal}"),
+            Err(refusal) => say::refusal(rt, refusal),
         }
     }
 
@@ -86,7 +86,7 @@ impl<const N: usize> Book<N> {
             print!(rt; "Block of frames beginning {first:02x}:")?;
             match layout::block::<Bridge>(&self.bits, area, &seven_lines::header(first)) {
                 Ok(entries) => say::numbers(rt, entries)?,
-                Err(spoilt) => println!(rt; "  spoilt: {spoilt}")?,
+                Err(spoilt) => say::spoilt(rt, spoilt)?,
             }
         }
         Ok(())
@@ -98,7 +98,7 @@ impl<const N: usize> Book<N> {
         let cost = Tally::new(&mut tally).cost::<Bridge, J>(&self.lines, &self.bits, ROOM, judge);
         match cost {
             Ok(cost) => println!(rt; "  {cost} by {name}"),
-            Err(refusal) => println!(rt; "  refused: {refusal}"),
+            Err(refusal) => say::refusal(rt, refusal),
         }
     }
 
@@ -115,7 +115,7 @@ impl<const N: usize> Book<N> {
         println!(rt; "Frame beginning {first:02x}")?;
         match self.answer(area, &seven_lines::frame(first)) {
             Ok(Ok((line, tried))) => say::tried(rt, line, tried),
-            Ok(Err(spoilt)) => println!(rt; "  spoilt: {spoilt}"),
+            Ok(Err(spoilt)) => say::spoilt(rt, spoilt),
             Err(fault) => println!(rt; "  refused {}", FaultCode::from(fault)),
         }
     }
