@@ -20,3 +20,7 @@ is_bits n l twelve sound = record {
       let same : get_or l k d ≡ get_or l k 0 = get_or_default l k d 0 (omega (arith, sound.few)) in
       rw (get_or-take n l k d used, same) (sound.below k used);
 }
+
+-- the bits that the places in use hold are a set of bits
+pub are_bits : (s : Inside) (bits : List ℕ) → IsSound s → bits ≡ bits_in s → IsBits bits
+are_bits s bits sound same = rw same (is_bits s.count (places s) refl sound)

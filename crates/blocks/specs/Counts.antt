@@ -2,9 +2,8 @@
 --     length_checks   before anything is counted: the lines are few enough, and the tally has a number for each cell
 --     count_checks    these, and then whether the table fits
 --     began           whether a call that answered so began to count
---     refusal_text    how a refusal is printed
 -- Assumes nothing.
-use Rattle.std.specs.Prelude.{ℕ, ◌^◌, Bool, true, false, List, [], ◌∷◌, ◌++◌, Ok, Err, Result, nat_lt, codes}
+use Rattle.std.specs.Prelude.{ℕ, ◌^◌, Bool, true, false, List, [], ◌∷◌, ◌++◌, Ok, Err, Result, nat_lt}
 use Rattle.blocks.specs.declared.refusal.Refusal.{Refusal}
 use Rattle.blocks.specs.declared.refusal.Refusal.TheVariants.{TooManyLines, ShortTally, NoRoom}
 
@@ -21,8 +20,3 @@ began (Ok x) = true
 began (Err TooManyLines) = false
 began (Err ShortTally) = false
 began (Err NoRoom) = true
-
-abbrev pub refusal_text : Refusal → List ℕ
-refusal_text TooManyLines = codes "there are too many lines"
-refusal_text ShortTally = codes "the tally is too short"
-refusal_text NoRoom = codes "the area is too small"

@@ -4,3 +4,4 @@ pub mod Changes
 pub mod Plans
 pub mod Tallies
 pub mod Counts
+pub mod Faults

@@ -2,26 +2,41 @@
 ghost use Rattle.std.specs.Prelude.{◌≡◌, length, Some};
 ghost use Rattle.kinds.specs.Checks.{checked};
 ghost use Rattle.blocks.specs.Counts.{length_checks};
+ghost use Rattle.blocks.specs.Faults.{code_of, refusal_text};
 
 use bits::Bits;
+use kinds::FaultCode;
 use std::fmt;
 
 // The most lines that a table is made of.
 const MOST_LINES: usize = 16384;
 
+// Each by its number.
 #[derive(Clone, Copy, Debug, PartialEq, Eq)]
 pub enum Refusal {
     // More than 16,384 lines.
-    TooManyLines,
-    // The tally has fewer numbers than there are cells.
-    ShortTally,
+    TooManyLines = 9,
     // The table is larger than the area.
-    NoRoom,
+    NoRoom = 13,
+    // The tally has fewer numbers than there are cells.
+    ShortTally = 14,
+}
+
+// Number, layer and place.
+impl From<Refusal> for FaultCode {
+    ghost from_gives = { λ refusal code. code ≡ code_of refusal };
+
+    fn from(refusal: Refusal) -> FaultCode {
+        FaultCode {
+            // `as`, which tells the discriminant.
+            number: refusal as u16,
+            layer: 2,
+            place: 0,
+        }
+    }
 }
 
 impl fmt::Display for Refusal {
-    ghost use Rattle.blocks.specs.Counts.{refusal_text};
-
     ghost output = { λ refusal. Some (refusal_text refusal) };
 
     fn fmt<W: fmt::Write>(&self, f: &mut fmt::Formatter<W>) -> fmt::Result {

@@ -1,5 +1,6 @@
 -- A row whose value lies inside its mask holds the rule of its numbers.
-use Rattle.std.proofs.Common.{◌≡◌, Bool, true, false, Ok, refl, ap}
+use Rattle.std.proofs.Common.{◌≡◌, Bool, true, false, Some, Ok, refl, ap}
+use Rattle.std.specs.Result.{result_ok}
 use mathlib.Core.Bool.{Bool-set}
 use Rattle.std.proofs.lemmas.Bool.{both_ways}
 use Rattle.bridge.specs.Inside.{inside}
@@ -17,3 +18,7 @@ module _ (row : Row) where
 
   pub made : (e : inside row.value row.mask ≡ true) → rule_in row ≡ Ok (rule e)
   made e = made_if (inside row.value row.mask) refl e
+
+-- the row of a rule's numbers holds that rule
+pub row_holds : (r : Rule) → result_ok (rule_in (record { value = r.value; mask = r.mask })) ≡ Some r
+row_holds r = ap result_ok (made _ r.inside)

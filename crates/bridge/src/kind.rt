@@ -44,6 +44,7 @@ impl Kind for Bridge {
         Rule::try_from(*row).ok()
     }
 
+    #[tactic(auto, using(crate::proofs::Made::row_holds))]
     fn row(rule: &Rule) -> Row {
         Row {
             value: rule.value,

@@ -1,3 +1,4 @@
 pub mod Layout
 pub mod Writing
 pub mod LookUp
+pub mod Faults

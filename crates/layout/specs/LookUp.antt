@@ -5,9 +5,8 @@
 --     Walks         what such an answer means for entries of any content: all entries before the one that ends the walk miss
 --     Tried         what the number tried means: up to the answered line in its block, or the whole block
 --     FindsLowest   what a look-up owes in a laid area
---     spoilt_text   how a spoilt area is told in print
 -- Assumes nothing.
-use Rattle.std.specs.Prelude.{◌≡◌, ℕ, ◌+◌, ◌-◌, ◌^◌, ◌≤◌, false, if◌then◌else◌, List, [], ◌∷◌, ◌++◌, length, take, drop, Some, None, Ok, Err, Option, Result, nat_lt, slice_index, slice_index_or, codes}
+use Rattle.std.specs.Prelude.{◌≡◌, ℕ, ◌+◌, ◌-◌, ◌^◌, ◌≤◌, false, if◌then◌else◌, List, [], ◌∷◌, ◌++◌, length, take, drop, Some, None, Ok, Err, Option, Result, nat_lt, slice_index, slice_index_or}
 use Rattle.std.specs.Borrow.{Bor}
 use Rattle.std.specs.List.{AllByRecursion}
 use Rattle.kinds.specs.Meaning.{Meaning}
@@ -18,10 +17,6 @@ use Rattle.blocks.specs.Cells.{cell_of}
 use Rattle.blocks.specs.Blocks.{block, sizes}
 use Rattle.layout.specs.declared.spoilt.Spoilt.{Spoilt}
 use Rattle.layout.specs.declared.spoilt.Spoilt.TheVariants.{Bounds, Entry}
-
-abbrev pub spoilt_text : Spoilt → List ℕ
-spoilt_text Bounds = codes "a block lies past the area"
-spoilt_text Entry = codes "an entry names no filled line"
 
 -- by the number of chosen bits, the area and the cell
 abbrev pub block_in : ℕ → List ℕ → ℕ → Result (List ℕ) Spoilt

@@ -1,5 +1,6 @@
 -- Numbers that pass their checks make the part that they name, whichever proofs show it.
-use Rattle.std.proofs.Common.{◌≡◌, ◌-◌, ◌%◌, ◌^◌, ◌≤◌, true, Ok, ap, ◌∙◌}
+use Rattle.std.proofs.Common.{◌≡◌, ◌-◌, ◌%◌, ◌^◌, ◌≤◌, true, Some, Ok, ap, ◌∙◌}
+use Rattle.std.specs.Result.{result_ok}
 use mathlib.Core.Bool.{Bool-set, Bool-discrete}
 use mathlib.Core.HLevel.{hedberg}
 use native.Mathlib.Bridge.{le_prop}
@@ -61,3 +62,7 @@ numbers r = record { source = r.source.address; source_length = r.source.length;
 pub rule_made : (r : Rule) → rule_in (numbers r) ≡ Ok r
 rule_made r =
     rw (prefix_made r.source, prefix_made r.destination, range_made r.source_ports, range_made r.destination_ports, protocol_made r.protocol)
+
+-- the row of a rule's numbers holds that rule
+pub row_holds : (r : Rule) → result_ok (rule_in (numbers r)) ≡ Some r
+row_holds r = ap result_ok (rule_made r)

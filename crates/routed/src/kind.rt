@@ -64,6 +64,7 @@ impl Kind for Routed {
         Rule::try_from(*row).ok()
     }
 
+    #[tactic(auto, using(crate::proofs::Made::row_holds))]
     fn row(rule: &Rule) -> Row {
         Row {
             source: rule.source.address,

@@ -69,6 +69,7 @@ fn marked() -> [Line<Row>; 7]
 }
 
 // The seven lines. The worked cases hold of the tables that are made of them.
+#[tactic(auto, using(crate::proofs::Rules::rules_of_marked))]
 pub fn lines() -> [Line<Row>; 7]
     ensures lines { rules_of bridge result ≡ seven }
     ensures cases { Cases }

@@ -3,6 +3,8 @@ use super::bits_tests::pair;
 use bits::Bits;
 use blocks::Refusal;
 use bridge::Bridge;
+use kinds::FaultCode;
+use layout::Spoilt;
 use std::test::Fail;
 
 #[test]
@@ -66,4 +68,13 @@ fn lays_filled_lines_alone(rt: HostRuntime) {
     let laid = layout::lay::<Bridge>(&lines, &Bits::none(), &mut area, &mut tally);
     assert_eq!(rt; laid, Ok(()));
     assert_eq!(rt; area, [0u32, 5, 0, 1, 2, 4, 5, 0]);
+}
+
+#[test]
+fn tells_refusals_by_number(rt: HostRuntime) {
+    assert_eq!(rt; FaultCode::from(Refusal::TooManyLines).number, 9);
+    assert_eq!(rt; FaultCode::from(Refusal::NoRoom).number, 13);
+    assert_eq!(rt; FaultCode::from(Refusal::ShortTally).number, 14);
+    assert_eq!(rt; FaultCode::from(Spoilt::Bounds).number, 15);
+    assert_eq!(rt; FaultCode::from(Spoilt::Entry).number, 15);
 }

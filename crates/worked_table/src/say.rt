@@ -1,5 +1,6 @@
 // What the client prints of an answer, and of some numbers.
 use blocks::Refusal;
+use kinds::FaultCode;
 use layout::Spoilt;
 use std::io;
 
@@ -11,13 +12,13 @@ pub(crate) fn tried(rt: &impl Print, line: Option<usize>, tried: usize) -> io::R
     }
 }
 
-// Why there is no table or no cost, and what is wrong with one: a whole line of the program.
+// Why there is no table or no cost, and what is wrong with one: a whole line of the program, with the fault's code and in words.
 pub(crate) fn refusal(rt: &impl Print, refusal: Refusal) -> io::Result<()> {
-    println!(rt; "  refused: {refusal}")
+    println!(rt; "  refused {}: {refusal}", FaultCode::from(refusal))
 }
 
 pub(crate) fn spoilt(rt: &impl Print, spoilt: Spoilt) -> io::Result<()> {
-    println!(rt; "  spoilt: {spoilt}")
+    println!(rt; "  refused {}: {spoilt}", FaultCode::from(spoilt))
 }
 
 // Numbers to the end of the line.

@@ -1,7 +1,6 @@
-use Rattle.std.proofs.Common.{refl}
-use Rattle.bits.specs.Places.{places}
-use Rattle.bits.proofs.Places.{is_bits}
+use Rattle.std.proofs.Common.{rules}
+use Rattle.bits.proofs.Places.{are_bits}
 use Rattle.bits.proofs.set.Bits.iter.Goals as goal
 
 pub returns-clause-bits : goal.returns-clause-bits
-returns-clause-bits c = is_bits c.self.inside.count (places c.self.inside) refl c.self.invariant
+returns-clause-bits c = are_bits c.self.inside _ c.self.invariant (search rules)
