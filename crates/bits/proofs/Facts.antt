@@ -4,17 +4,16 @@ use Rattle.std.proofs.lemmas.Bool.{cases_eq, cases_lt, eq-eqb, ne_eqb, lt-ltb, l
 use Rattle.std.proofs.lemmas.Bool.Decides.{nat_tests}
 use Rattle.bits.specs.Sets.{rising, member, with_bit, without_bit}
 use Rattle.bits.specs.declared.set.Bits.TheInside.{Inside}
-use Rattle.bits.specs.Places.{places, bits_in, IsSound}
-use Rattle.bits.proofs.Places.{is_bits}
+use Rattle.bits.specs.Places.{bits_in, IsSound}
 
 pub length_bits : (s : Inside) → IsSound s → length (bits_in s) ≤ 12
-length_bits s sound = (is_bits s.count (places s) refl sound).few
+length_bits s sound = sound.bits.few
 
 pub rising_bits : (s : Inside) → IsSound s → rising (bits_in s) ≡ true
-rising_bits s sound = sound.rises
+rising_bits s sound = sound.bits.rises
 
 pub bits_below : (s : Inside) → IsSound s → (k : ℕ) → k < length (bits_in s) → get_or (bits_in s) k 0 < 1024
-bits_below s sound k lt = (is_bits s.count (places s) refl sound).below k 0 lt
+bits_below s sound k lt = sound.bits.below k 0 lt
 
 pub length-with_bit : (b : ℕ) (l : List ℕ) → length (with_bit b l) ≡ suc (length l)
 length-with_bit b [] = refl

@@ -6,6 +6,7 @@ use Rattle.bits.specs.declared.set.Bits.TheInside.{Inside}
 use Rattle.bits.specs.Places.{places, bits_in, Sound, IsSound}
 use Rattle.bits.specs.PlacesLaw.{length-used}
 use Rattle.bits.specs.Sets.{below_first, rising, member, with_bit}
+use Rattle.bits.proofs.Places.{below, are_set}
 
 -- what the places hold after a number has passed them
 abbrev pub handed_on : ℕ → List ℕ → List ℕ
@@ -64,26 +65,29 @@ module _ (s : Inside) (b : ℕ) (bits after : List ℕ) (view_is : bits_in s ≡
   low : b < 1024
   low = grind (arith, nat_tests)
 
+  used_below : (k : ℕ) → k < s.count → get_or (places s) k 0 < 1024
+  used_below = below s.count (places s) refl sound
+
   rises : rising bits ≡ true
-  rises = ap rising (sym view_is) ∙ sound.rises
+  rises = ap rising (sym view_is) ∙ sound.bits.rises
 
   pub bits_joined : take (s.count + 1) after ≡ with_bit b bits
   bits_joined =
       let mark = sound.free s.count (omega arith) inside in
       ap (λ (l : List ℕ). take (s.count + 1) l) is
       ∙ ap (λ (n : ℕ). take n (handed_on b (places s))) (add-one s.count)
-      ∙ take-handed_on s.count b (places s) inside sound.rises (λ k p. omega (arith, sound.below k p)) (omega (arith, low))
+      ∙ take-handed_on s.count b (places s) inside sound.bits.rises (λ k p. omega (arith, used_below k p)) (omega (arith, low))
       ∙ ap (with_bit b) view_is
 
   rising_joined : rising (take (s.count + 1) after) ≡ true
   rising_joined = ap rising bits_joined ∙ rising-with_bit b bits rises (grind (arith, nat_tests))
 
   below_joined : (k : ℕ) → k < s.count + 1 → get_or after k 0 < 1024
-  below_joined k p = rw is (below_handed_on 1024 s.count b k (places s) (omega arith) inside low sound.below)
+  below_joined k p = rw is (below_handed_on 1024 s.count b k (places s) (omega arith) inside low used_below)
 
   free_joined : (k : ℕ) → s.count + 1 ≤ k → k < 12 → get_or after k 0 ≡ 1024
   free_joined k p q =
-      rw is (free_handed_on 1024 s.count b k (places s) (omega arith) q (omega (arith, low)) (λ e. absurd (omega arith)) sound.free (λ j h. omega (arith, sound.below j h)))
+      rw is (free_handed_on 1024 s.count b k (places s) (omega arith) q (omega (arith, low)) (λ e. absurd (omega arith)) sound.free (λ j h. omega (arith, used_below j h)))
 
   pub joined_sound : Sound (s.count + 1) after
-  joined_sound = record { few = omega (arith, inside); rises = rising_joined; below = below_joined; free = free_joined }
+  joined_sound = record { few = omega (arith, inside); bits = are_set (s.count + 1) after (ap length is) (omega (arith, inside)) rising_joined below_joined; free = free_joined }

@@ -8,6 +8,7 @@ use Rattle.bits.specs.declared.set.Bits.TheInside.{Inside}
 use Rattle.bits.specs.Places.{places, bits_in, Sound, IsSound}
 use Rattle.bits.specs.PlacesLaw.{length-used}
 use Rattle.bits.specs.Sets.{below_first, rising, member, without_bit}
+use Rattle.bits.proofs.Places.{below, are_set}
 use Rattle.bits.proofs.Members.{member_at, member_some, member_behind, member_last, member_without}
 
 -- what the places hold after a bit has left
@@ -78,8 +79,11 @@ module _ (s : Inside) (out : ℕ) (bits after : List ℕ) (view_is : bits_in s �
   whole : take (suc (s.count - 1)) (places s) ≡ bits
   whole = ap (λ (n : ℕ). take n (places s)) counted ∙ view_is
 
+  used_below : (k : ℕ) → k < s.count → get_or (places s) k 0 < 1024
+  used_below = below s.count (places s) refl sound
+
   rises : rising bits ≡ true
-  rises = ap rising (sym view_is) ∙ sound.rises
+  rises = ap rising (sym view_is) ∙ sound.bits.rises
 
   pub bits_parted : take (s.count - 1) after ≡ without_bit out bits
   bits_parted =
@@ -92,8 +96,8 @@ module _ (s : Inside) (out : ℕ) (bits after : List ℕ) (view_is : bits_in s �
 
   below_parted : (k : ℕ) → k < s.count - 1 → get_or after k 0 < 1024
   below_parted k p =
-      let here = sound.below k (omega arith) in
-      let next = sound.below (suc k) (omega (arith, counted)) in
+      let here = used_below k (omega arith) in
+      let next = used_below (suc k) (omega (arith, counted)) in
       let same : get_or (places s) (suc k) 1024 ≡ get_or (places s) (suc k) 0 = get_or_default (places s) (suc k) 1024 0 (omega (arith, counted, sound.few)) in
       rw (at_parted k (omega (arith, counted, sound.few))) (grind (arith, nat_tests))
 
@@ -107,4 +111,8 @@ module _ (s : Inside) (out : ℕ) (bits after : List ℕ) (view_is : bits_in s �
       ]
 
   pub parted_sound : Sound (s.count - 1) after
-  parted_sound = record { few = omega (arith, sound.few); rises = ap rising bits_parted ∙ rising_without out bits rises; below = below_parted; free = free_parted }
+  parted_sound = record {
+    few = omega (arith, sound.few);
+    bits = are_set (s.count - 1) after (ap length is) (omega (arith, sound.few)) (ap rising bits_parted ∙ rising_without out bits rises) below_parted;
+    free = free_parted;
+  }

@@ -4,9 +4,9 @@
 --     Sound       what a set promises of its places
 --     places_of   the places that hold a list of bits
 -- Assumes nothing.
-use Rattle.std.specs.Prelude.{◌≡◌, ℕ, ◌<◌, ◌≤◌, true, List, [], ◌∷◌, length, take, slice_index, slice_index_or}
+use Rattle.std.specs.Prelude.{◌≡◌, ℕ, ◌<◌, ◌≤◌, List, [], ◌∷◌, length, take, slice_index, slice_index_or}
 use Rattle.bits.specs.declared.set.Bits.TheInside.{Inside}
-use Rattle.bits.specs.Sets.{rising}
+use Rattle.bits.specs.Chosen.{IsBits}
 
 -- the twelve places, in use or free
 abbrev pub places : Inside → List ℕ
@@ -16,11 +16,10 @@ places s = s.b0 ∷ s.b1 ∷ s.b2 ∷ s.b3 ∷ s.b4 ∷ s.b5 ∷ s.b6 ∷ s.b7 �
 abbrev pub bits_in : Inside → List ℕ
 bits_in s = take s.count (places s)
 
--- at most twelve are in use, by rising bits below 1,024; a free one holds 1,024
+-- at most twelve are in use, by a set of bits; a free one holds 1,024
 pub record Sound (used : ℕ) (held : List ℕ) : Type 0 where
   pub few : used ≤ 12
-  pub rises : rising (take used held) ≡ true
-  pub below : (k : ℕ) → k < used → slice_index held k < 1024
+  pub bits : IsBits (take used held)
   pub free : (k : ℕ) → used ≤ k → k < 12 → slice_index held k ≡ 1024
 
 -- what the places of each set promise

@@ -1,7 +1,6 @@
-use Rattle.std.proofs.Common.{◌≡◌, ℕ, List, [], ◌∷◌, refl}
+use Rattle.std.proofs.Common.{◌≡◌, ℕ, List, [], ◌∷◌}
 use Rattle.bits.specs.Places.{places}
 use Rattle.bits.proofs.Joining.{handed_on, bits_joined, joined_sound}
-use Rattle.bits.proofs.Places.{is_bits}
 use Rattle.bits.proofs.set.Bits.joined.Goals as goal
 use Rattle.bits.proofs.set.Bits.joined.Goals.{After-min-p11}
 
@@ -22,4 +21,4 @@ returns-clause-set c =
 pub returns-clause-bits : goal.returns-clause-bits
 returns-clause-bits c =
     let d = (goal.at.returns-clause-bits c).After-min-p11 in
-    is_bits _ (after d) refl (joined_sound d.self.inside d.args.bit d.args.self.now (after d) d.self.view_is d.self.invariant (is d) d.requires.room d.requires.new)
+    (joined_sound d.self.inside d.args.bit d.args.self.now (after d) d.self.view_is d.self.invariant (is d) d.requires.room d.requires.new).bits

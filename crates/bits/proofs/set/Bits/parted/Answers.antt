@@ -1,7 +1,6 @@
-use Rattle.std.proofs.Common.{◌≡◌, ℕ, List, [], ◌∷◌, refl}
+use Rattle.std.proofs.Common.{◌≡◌, ℕ, List, [], ◌∷◌}
 use Rattle.bits.specs.Places.{places}
 use Rattle.bits.proofs.Leaving.{moved_up, bits_parted, parted_sound}
-use Rattle.bits.proofs.Places.{is_bits}
 use Rattle.bits.proofs.set.Bits.parted.Goals as goal
 use Rattle.bits.proofs.set.Bits.parted.Goals.{After-kept-p11}
 
@@ -22,4 +21,4 @@ returns-clause-set c =
 pub returns-clause-bits : goal.returns-clause-bits
 returns-clause-bits c =
     let d = (goal.at.returns-clause-bits c).After-kept-p11 in
-    is_bits _ (after d) refl (parted_sound d.self.inside d.args.out d.args.self.now (after d) d.self.view_is d.self.invariant (is d) d.requires)
+    (parted_sound d.self.inside d.args.out d.args.self.now (after d) d.self.view_is d.self.invariant (is d) d.requires).bits
