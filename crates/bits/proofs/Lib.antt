@@ -2,5 +2,4 @@ mod Members
 mod Joining
 mod Leaving
 mod Places
-mod Same
 pub mod Facts

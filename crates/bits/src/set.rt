@@ -11,7 +11,8 @@ use std::ops::Range;
 // At most twelve rising bits, each below 1,024. A place that is not in use holds 1,024.
 // Single numbers and no array beside a count: a rule of the project; its functions name each place.
 // What a `Model` promises its callers don't see, so each call that makes a set says it (`IsBits`).
-#[derive(Clone, Copy, Debug, PartialEq, Eq)]
+// No `==`: nothing compares sets.
+#[derive(Clone, Copy, Debug)]
 pub struct Bits {
     count: usize,
     b0: u16,

@@ -1,5 +1,5 @@
 // The tally behind its guard: counters, one for each cell, that are all zero again when the guard ends.
-ghost use Rattle.std.specs.Prelude.{◌≡◌, ◌^◌, ◌≤◌, true, length, take, replicate, is_ok};
+ghost use Rattle.std.specs.Prelude.{◌≡◌, ◌^◌, ◌<◌, ◌≤◌, true, IfOk, length, take, replicate, is_ok};
 ghost use Rattle.kinds.specs.Checks.{checked};
 ghost use Rattle.kinds.specs.Lines.{rules_of};
 ghost use Rattle.blocks.specs.Blocks.{sizes, table_size};
@@ -101,9 +101,18 @@ impl Tally<'_> {
         judge: &J,
     ) -> Result<u64, Refusal>
         ensures answer { result ≡ checked (count_checks (length lines.now) (length bits.now) (length self.old.cells.now) (table_size K.meaning (rules_of K.meaning lines.now) bits.now) room) (J.cost judge.now (sizes K.meaning (rules_of K.meaning lines.now) bits.now)) }
+        ensures below { IfOk result (λ cost. cost < 2 ^ 63) }
         ensures kept { SameCells self.old self.new }
     {
         self.fits::<K>(lines, None, bits, room)?;
-        Ok(judge.cost_of(self.sizes(bits)))
+        Ok(judged(judge, self.sizes(bits)))
     }
+}
+
+// What a judge says of some sizes.
+fn judged<J: Judge>(judge: &J, sizes: &[u32]) -> u64
+    ensures answer { result ≡ J.cost judge.now sizes.now }
+    ensures below { result < 2 ^ 63 }
+{
+    judge.cost_of(sizes)
 }

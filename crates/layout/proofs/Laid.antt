@@ -6,7 +6,7 @@ use Rattle.std.proofs.lemmas.List.Sums.{sum_by_more, sum_by-take-le}
 use Rattle.kinds.specs.Meaning.{Meaning}
 use Rattle.blocks.specs.Blocks.{block, blocks, sizes, table_size, Fits}
 use Rattle.blocks.proofs.Sizes.{length-blocks, length-sizes, get_or-blocks, get_or-sizes}
-use Rattle.layout.specs.Layout.{starts_from, laid}
+use Rattle.layout.specs.Layout.{starts, laid}
 use Rattle.layout.proofs.Starts.{length_starts, get_or_starts}
 use Rattle.layout.proofs.Joined.{length_joined, drop_past, part_joined}
 
@@ -21,9 +21,9 @@ module _ {Header Rule Row : Type 0} (k : Meaning Header Rule Row) (rules : List 
   -- an area is as long as its table, and longer by the zeros behind it
   length_all : (len : ℕ) → length (laid k rules bits len) ≡ table_size k rules bits + (len - table_size k rules bits)
   length_all len =
-      let starts = starts_from 0 (sizes k rules bits) in
+      let front = starts (sizes k rules bits) in
       let entries = flat_map (λ b. b) (blocks k rules bits) in
-      omega (arith, length-append (starts ++ entries) (replicate (len - table_size k rules bits) 0), length-append starts entries, length_starts 0 (sizes k rules bits), length-sizes k rules bits, length_joined (blocks k rules bits), length-replicate {A = ℕ} (len - table_size k rules bits) 0)
+      omega (arith, length-append (front ++ entries) (replicate (len - table_size k rules bits) 0), length-append front entries, length_starts (sizes k rules bits), length-sizes k rules bits, length_joined (blocks k rules bits), length-replicate {A = ℕ} (len - table_size k rules bits) 0)
 
   pub laid_fits : (len : ℕ) → length (laid k rules bits len) ≡ len → Fits k rules bits len
   laid_fits len e = omega (arith, length_all len)
@@ -32,12 +32,12 @@ module _ {Header Rule Row : Type 0} (k : Meaning Header Rule Row) (rules : List 
   pub laid_start : (len c : ℕ) → c ≤ 2 ^ length bits → get_or (laid k rules bits len) c 0 ≡ start c
   laid_start len c h =
       let ss = sizes k rules bits in
-      let starts = starts_from 0 ss in
+      let front = starts ss in
       let entries = flat_map (λ b. b) (blocks k rules bits) in
-      let count : length starts ≡ 2 ^ length bits + 1 = length_starts 0 ss ∙ ap (λ n. n + 1) (length-sizes k rules bits) in
-      get_or_append_left (starts ++ entries) (replicate (len - table_size k rules bits) 0) 0 c (omega (arith, length-append starts entries))
-      ∙ get_or_append_left starts entries 0 c (omega arith)
-      ∙ get_or_starts 0 ss c (omega (arith, length-sizes k rules bits))
+      let count : length front ≡ 2 ^ length bits + 1 = length_starts ss ∙ ap (λ n. n + 1) (length-sizes k rules bits) in
+      get_or_append_left (front ++ entries) (replicate (len - table_size k rules bits) 0) 0 c (omega (arith, length-append front entries))
+      ∙ get_or_append_left front entries 0 c (omega arith)
+      ∙ get_or_starts ss c (omega (arith, length-sizes k rules bits))
       ∙ omega arith
 
   -- the entries between two starts are the cell's block
@@ -45,15 +45,15 @@ module _ {Header Rule Row : Type 0} (k : Meaning Header Rule Row) (rules : List 
   laid_part len c h =
       let ss = sizes k rules bits in
       let bs = blocks k rules bits in
-      let starts = starts_from 0 ss in
+      let front = starts ss in
       let rest : List ℕ = replicate (len - table_size k rules bits) 0 in
       let size = length (get_or bs c []) in
       let in' : c < length bs = omega (arith, length-blocks k rules bits) in
       let wide : start (c + 1) - start c ≡ size = omega (arith, start_next c h, ap length (get_or-blocks k rules bits c h)) in
-      let here : 2 ^ length bits + 1 + start c ≡ length starts + start c = ap (λ n. n + start c) (sym (length_starts 0 ss ∙ ap (λ n. n + 1) (length-sizes k rules bits))) in
+      let here : 2 ^ length bits + 1 + start c ≡ length front + start c = ap (λ n. n + start c) (sym (length_starts ss ∙ ap (λ n. n + 1) (length-sizes k rules bits))) in
       ap (λ n. take n (drop (2 ^ length bits + 1 + start c) (laid k rules bits len))) wide
-      ∙ ap (λ xs. take size (drop (2 ^ length bits + 1 + start c) xs)) (append_assoc starts (flat_map (λ b. b) bs) rest)
-      ∙ ap (take size) (drop_past starts (flat_map (λ b. b) bs ++ rest) (start c) (2 ^ length bits + 1 + start c) here)
+      ∙ ap (λ xs. take size (drop (2 ^ length bits + 1 + start c) xs)) (append_assoc front (flat_map (λ b. b) bs) rest)
+      ∙ ap (take size) (drop_past front (flat_map (λ b. b) bs ++ rest) (start c) (2 ^ length bits + 1 + start c) here)
       ∙ part_joined bs c rest in'
       ∙ get_or-blocks k rules bits c h
 

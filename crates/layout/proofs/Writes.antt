@@ -10,7 +10,7 @@ use Rattle.blocks.specs.declared.plan.Plan.{Plan}
 use Rattle.blocks.proofs.Plans.{length-rules_in}
 use Rattle.blocks.proofs.Sizes.{block_below, below_all, below_more, below_size_le, length-blocks, length-sizes, get_or-blocks}
 use Rattle.layout.proofs.Joined.{length_joined}
-use Rattle.layout.specs.Layout.{starts_from, laid}
+use Rattle.layout.specs.Layout.{starts, laid}
 use Rattle.layout.specs.Writing.{SameArea}
 use Rattle.layout.specs.declared.writer.Writer.{Writer}
 use Rattle.layout.proofs.Starts.{length_starts}
@@ -70,9 +70,9 @@ module _ {Header Rule Row : Type 0} (k : Meaning Header Rule Row) (plan : Plan R
   blocks_written c front after le so_far = so_far ∙ ap (λ (bs : List (List ℕ)). front ++ flat_map (λ es. es) bs) (take_all c (blocks k rules bits) (omega (arith, length-blocks k rules bits)))
 
   -- starts, then all blocks, then zeros to the end of an area of which `at` places were written
-  pub all_written : {ss none starts entries final : List ℕ} {room : ℕ} (area : List ℕ) (at : ℕ) → ss ≡ sizes k rules bits → none ≡ [] → starts ≡ none ++ starts_from 0 ss → entries ≡ starts ++ flat_map (λ es. es) (blocks k rules bits) → entries ≡ take at area → length area ≡ room → table_size k rules bits ≤ room → final ≡ entries ++ replicate (length area - at) 0 → final ≡ laid k rules bits room
+  pub all_written : {ss none begun entries final : List ℕ} {room : ℕ} (area : List ℕ) (at : ℕ) → ss ≡ sizes k rules bits → none ≡ [] → begun ≡ none ++ starts ss → entries ≡ begun ++ flat_map (λ es. es) (blocks k rules bits) → entries ≡ take at area → length area ≡ room → table_size k rules bits ≤ room → final ≡ entries ++ replicate (length area - at) 0 → final ≡ laid k rules bits room
   all_written {ss = ss} {entries = entries} {room = room} area at counted is_none starts_are entries_are written long fits zeros =
-      let front : entries ≡ starts_from 0 (sizes k rules bits) ++ flat_map (λ es. es) (blocks k rules bits) = entries_are ∙ ap (λ (l : List ℕ). l ++ flat_map (λ es. es) (blocks k rules bits)) (starts_are ∙ ap (λ (l : List ℕ). l ++ starts_from 0 ss) is_none ∙ ap (starts_from 0) counted) in
-      let count : length entries ≡ table_size k rules bits = ap length front ∙ omega (arith, length-append (starts_from 0 (sizes k rules bits)) (flat_map (λ es. es) (blocks k rules bits)), length_starts 0 (sizes k rules bits), length-sizes k rules bits, length_joined (blocks k rules bits)) in
+      let front : entries ≡ starts (sizes k rules bits) ++ flat_map (λ es. es) (blocks k rules bits) = entries_are ∙ ap (λ (l : List ℕ). l ++ flat_map (λ es. es) (blocks k rules bits)) (starts_are ∙ ap (λ (l : List ℕ). l ++ starts ss) is_none ∙ ap starts counted) in
+      let count : length entries ≡ table_size k rules bits = ap length front ∙ omega (arith, length-append (starts (sizes k rules bits)) (flat_map (λ es. es) (blocks k rules bits)), length_starts (sizes k rules bits), length-sizes k rules bits, length_joined (blocks k rules bits)) in
       let behind : length area - at ≡ room - table_size k rules bits = omega (arith, ap length written, length-take at area) in
       zeros ∙ ap (λ (n : ℕ). entries ++ replicate n 0) behind ∙ ap (λ (l : List ℕ). l ++ replicate (room - table_size k rules bits) 0) front

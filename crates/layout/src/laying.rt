@@ -6,7 +6,7 @@ ghost use Rattle.kinds.specs.Lines.{rules_of};
 ghost use Rattle.blocks.specs.Blocks.{table_size, Fits, block, blocks as all_blocks, sizes as all_sizes};
 ghost use Rattle.blocks.specs.Counts.{count_checks, began};
 ghost use Rattle.blocks.specs.Plans.{rules_in};
-ghost use Rattle.layout.specs.Layout.{starts_from, laid};
+ghost use Rattle.layout.specs.Layout.{starts, laid};
 ghost use Rattle.layout.specs.Writing.{written, SameArea};
 
 use super::writer::Writer;
@@ -18,7 +18,7 @@ use kinds::{Kind, Line};
 fn write_starts(out: &mut Writer, sizes: &[u32])
     requires room { length (written out.old) + length sizes.now < length out.old.area.now }
     requires few { sum sizes.now < 2 ^ 32 }
-    ensures starts { written out.new ≡ written out.old ++ starts_from 0 sizes.now }
+    ensures starts { written out.new ≡ written out.old ++ starts sizes.now }
     ensures kept { SameArea out.old out.new }
 {
     let mut start: u32 = 0;

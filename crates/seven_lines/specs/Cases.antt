@@ -11,7 +11,7 @@ use Rattle.bridge.specs.Bridge.{bridge}
 use Rattle.routed.specs.Ranges.{range_of, range_admits}
 use Rattle.judges.specs.Costs.{largest, capped_squares}
 use Rattle.blocks.specs.Blocks.{block, sizes, table_size}
-use Rattle.layout.specs.Layout.{starts_from, laid}
+use Rattle.layout.specs.Layout.{starts, laid}
 use Rattle.layout.specs.LookUp.{looked_up}
 use Rattle.seven_lines.specs.Beginnings.{header_beginning}
 use Rattle.seven_lines.specs.Seven.{seven, without}
@@ -19,7 +19,7 @@ use Rattle.seven_lines.specs.Seven.{seven, without}
 pub data Case : Type 0 where
   -- for some chosen bits: the block of a cell, where the blocks start, how many places the table takes, and the whole area
   block_of : (bits : List ℕ) (cell : ℕ) (lines : List ℕ) → Case
-  starts_of : (bits : List ℕ) (starts : List ℕ) → Case
+  starts_of : (bits : List ℕ) (numbers : List ℕ) → Case
   size_of : (bits : List ℕ) (places : ℕ) → Case
   area_of : (bits : List ℕ) (room : ℕ) (numbers : List ℕ) → Case
   -- for some chosen bits: what the block sizes cost, by each judge
@@ -32,7 +32,7 @@ pub data Case : Type 0 where
 
 abbrev pub Holds : Case → Type 0
 Holds (block_of bits cell lines) = block bridge seven bits cell ≡ lines
-Holds (starts_of bits starts) = starts_from 0 (sizes bridge seven bits) ≡ starts
+Holds (starts_of bits numbers) = starts (sizes bridge seven bits) ≡ numbers
 Holds (size_of bits places) = table_size bridge seven bits ≡ places
 Holds (area_of bits room numbers) = laid bridge seven bits room ≡ numbers
 Holds (largest_of bits cost) = largest (sizes bridge seven bits) ≡ cost

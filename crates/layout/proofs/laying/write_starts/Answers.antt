@@ -1,7 +1,7 @@
 use Rattle.std.proofs.Common.{◌+◌, sym, ◌∙◌, arith}
 use Rattle.std.proofs.lemmas.List.{take_all}
 use Rattle.std.proofs.lemmas.List.Sums.{sum_by_more}
-use Rattle.layout.specs.Layout.{starts_from}
+use Rattle.layout.specs.Layout.{starts}
 use Rattle.layout.proofs.Starts.{length_starts, starts_more}
 use Rattle.layout.proofs.Writes.{same_behind, grown}
 use Rattle.layout.proofs.laying.write_starts.Goals as goal
@@ -16,5 +16,5 @@ loop-size-preserved c = record {
 pub returns-clause-starts : goal.returns-clause-starts
 returns-clause-starts c =
     let i = c.loop-size.size-index in
-    let whole = take_all (i + 1) (starts_from 0 c.args.sizes.now) (omega (arith, length_starts 0 c.args.sizes.now)) in
+    let whole = take_all (i + 1) (starts c.args.sizes.now) (omega (arith, length_starts c.args.sizes.now)) in
     grown _ _ _ c.loop-size.invariant.starts c.put-2.ensures.written (sym whole ∙ starts_more c.args.sizes.now i _ (omega arith) c.loop-size.invariant.start)

@@ -4,7 +4,7 @@ use Rattle.blocks.specs.Plans.{rules_in}
 use Rattle.blocks.proofs.Plans.{few_entries}
 use Rattle.blocks.proofs.Sizes.{length-sizes}
 use Rattle.layout.specs.Writing.{written}
-use Rattle.layout.specs.Layout.{starts_from}
+use Rattle.layout.specs.Layout.{starts}
 use Rattle.layout.proofs.Starts.{length_starts}
 use Rattle.layout.proofs.Writes.{all_written}
 use Rattle.layout.proofs.laying.write_table.Goals as goal
@@ -24,7 +24,7 @@ write_starts-requires-clause-few g c =
 pub write_blocks-requires : goal.write_blocks-requires
 write_blocks-requires g c =
     let plan = c.args.plan.now in
-    omega (arith, ap length c.new-out.ensures.none, ap length c.new-out.ensures.holds, ap length c.requires.counted, length-sizes g.K.Kind.meaning (rules_in g.K.Kind.meaning plan) plan.bits.now, ap length c.write_starts.ensures.starts, length-append (written c.new-out.result) (starts_from 0 c.args.sizes.now), length_starts 0 c.args.sizes.now, c.write_starts.ensures.kept.len)
+    omega (arith, ap length c.new-out.ensures.none, ap length c.new-out.ensures.holds, ap length c.requires.counted, length-sizes g.K.Kind.meaning (rules_in g.K.Kind.meaning plan) plan.bits.now, ap length c.write_starts.ensures.starts, length-append (written c.new-out.result) (starts c.args.sizes.now), length_starts c.args.sizes.now, c.write_starts.ensures.kept.len)
 
 pub returns : goal.returns
 returns g c =
