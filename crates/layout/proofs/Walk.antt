@@ -11,7 +11,8 @@ use Rattle.blocks.specs.Cells.{cell_of}
 use Rattle.blocks.specs.Blocks.{admits_line, block, sizes}
 use Rattle.blocks.proofs.Cells.{admits_own, cell_of_below}
 use Rattle.blocks.proofs.Sizes.{length-sizes, get_or-sizes}
-use Rattle.layout.specs.LookUp.{try_entry, walked, Tried, FindsLowest}
+use Rattle.layout.specs.LookUp.{try_entry, walked, Walks, FindsLowest}
+use Rattle.layout.proofs.Tries.{walks}
 
 module _ {Header Rule Row : Type 0} (k : Meaning Header Rule Row) (rules : List (Option Rule)) (h : Header) where
   -- the lowest line that matches among n lines from a on
@@ -25,20 +26,15 @@ module _ {Header Rule Row : Type 0} (k : Meaning Header Rule Row) (rules : List 
     tried : ℕ
     answer : walked k rules h t entries ≡ Ok (line, t + tried)
     lowest : LowestFrom a n line
-    counted : Tried entries line tried
     within : tried ≤ length entries
 
   lowest_on : (a n : ℕ) (line : Option ℕ) → (Matches k rules h a → ⊥) → LowestFrom (a + 1) n line → LowestFrom a (suc n) line
   lowest_on a n None not_a low = λ m l u match. ⊎_elim (λ e. not_a (subst (Matches k rules h) e match)) (⊎_elim (λ lt. omega arith) (λ gt. low m (omega arith) (omega arith) match)) (cases_order m a)
   lowest_on a n (Some l) not_a low = (low.0, λ m le match. ⊎_elim (λ e. absurd (not_a (subst (Matches k rules h) e match))) (⊎_elim (λ lt. absurd (omega arith)) (λ gt. low.1 m (omega arith) match)) (cases_order m a))
 
-  counted_on : (a : ℕ) (entries : List ℕ) (line : Option ℕ) (tried : ℕ) → Tried entries line tried → Tried (a ∷ entries) line (tried + 1)
-  counted_on a entries None tried c = omega arith
-  counted_on a entries (Some l) tried c = (a ∷ c.0, c.1, ap (λ xs. a ∷ xs) c.2, omega arith)
-
   -- a line that is not in the block
   skipped : (a n t : ℕ) (entries : List ℕ) → (Matches k rules h a → ⊥) → Walk (a + 1) n t entries → Walk a (suc n) t entries
-  skipped a n t entries not_a w = record { line = w.line; tried = w.tried; answer = w.answer; lowest = lowest_on a n w.line not_a w.lowest; counted = w.counted; within = w.within }
+  skipped a n t entries not_a w = record { line = w.line; tried = w.tried; answer = w.answer; lowest = lowest_on a n w.line not_a w.lowest; within = w.within }
 
   -- an entry whose rule does not match, and one whose rule does
   missed : (a n t : ℕ) (entries : List ℕ) (r : Rule) → get_or rules a None ≡ Some r → k.matches r h ≡ false → Walk (a + 1) n (t + 1) entries → Walk a (suc n) t (a ∷ entries)
@@ -47,7 +43,6 @@ module _ {Header Rule Row : Type 0} (k : Meaning Header Rule Row) (rules : List 
     tried = w.tried + 1;
     answer = ap (λ o. try_entry k o h (Some a, t + 1) (walked k rules h (t + 1) entries)) is ∙ cond-false (k.matches r h) (Ok (Some a, t + 1)) (walked k rules h (t + 1) entries) no_match ∙ w.answer ∙ ap (λ (n : ℕ). Ok (w.line, n)) (omega arith);
     lowest = lowest_on a n w.line (λ match. both_ways (k.matches r h) no_match (sym (ap (λ o. matches_at k o h) is) ∙ match)) w.lowest;
-    counted = counted_on a entries w.line w.tried w.counted;
     within = omega (arith, w.within);
   }
 
@@ -57,14 +52,13 @@ module _ {Header Rule Row : Type 0} (k : Meaning Header Rule Row) (rules : List 
     tried = 1;
     answer = ap (λ o. try_entry k o h (Some a, t + 1) (walked k rules h (t + 1) entries)) is ∙ cond-true (k.matches r h) (Ok (Some a, t + 1)) (walked k rules h (t + 1) entries) match;
     lowest = (ap (λ o. matches_at k o h) is ∙ match, λ m le other. le);
-    counted = ([], entries, refl, refl);
     within = omega arith;
   }
 
   -- a test that passes filled lines alone, and every line that matches
   module _ (p : ℕ → Bool) (filled : (l : ℕ) → p l ≡ true → (r : Rule) × (get_or rules l None ≡ Some r)) (kept : (l : ℕ) → Matches k rules h l → p l ≡ true) where
     walk : (n a t : ℕ) → Walk a n t (filter p (range_with_len a n))
-    walk zero a t = record { line = None; tried = 0; answer = ap (λ (n : ℕ). Ok (None, n)) (omega arith); lowest = λ m l u match. omega arith; counted = refl; within = omega arith }
+    walk zero a t = record { line = None; tried = 0; answer = ap (λ (n : ℕ). Ok (None, n)) (omega arith); lowest = λ m l u match. omega arith; within = omega arith }
     walk (suc n) a t = ⊎_elim
         (λ in_it. rw (cond-true (p a) (a ∷ filter p (range_with_len (a + 1) n)) (filter p (range_with_len (a + 1) n)) in_it) (tried_one (filled a in_it).0 (filled a in_it).1 (walk n (a + 1) (t + 1))))
         (λ not_in. rw (cond-false (p a) (a ∷ filter p (range_with_len (a + 1) n)) (filter p (range_with_len (a + 1) n)) not_in) (skipped a n t (filter p (range_with_len (a + 1) n)) (λ match. both_ways (p a) not_in (kept a match)) (walk n (a + 1) t)))
@@ -103,4 +97,5 @@ module _ {Header Rule Row : Type 0} (k : Meaning Header Rule Row) (law : Lawful 
   answered =
       let w = walk k rules h (λ l. admits_line k (get_or rules l None) bits cell) (λ l e. some_admitted (get_or rules l None) e) (λ l match. kept_own (get_or rules l None) match) (length rules) 0 0 in
       let answer : walked k rules h 0 (block k rules bits cell) ≡ Ok (w.line, w.tried) = w.answer ∙ ap (λ (n : ℕ). Ok (w.line, n)) (omega arith) in
-      subst (FindsLowest k rules bits h) (sym answer) (record { lowest = lowest_of_all w.line w.lowest; counted = w.counted; few = omega (arith, w.within, size_within) })
+      let counted = subst (Walks k rules h (block k rules bits cell)) answer (walks k rules h (block k rules bits cell)) in
+      subst (FindsLowest k rules bits h) (sym answer) (record { lowest = lowest_of_all w.line w.lowest; counted = counted; few = omega (arith, w.within, size_within) })

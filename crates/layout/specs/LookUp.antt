@@ -1,10 +1,14 @@
 -- Looking into an area of any content.
 --     block_in      the entries that the starts give to a cell, unless a start lies above the next or the entries past the end
+--     Hands         a part that is handed out holds these entries
+--     try_entry     the answer of one entry, or that of the entries behind it
 --     walked        the answer of trying entries in order: the first whose line matches, and how many were tried
 --     looked_up     the answer for a header: its cell's entries, tried in order
---     Walks         what such an answer means for entries of any content: all entries before the one that ends the walk miss
---     Tried         what the number tried means: up to the answered line in its block, or the whole block
---     FindsLowest   what a look-up owes in a laid area
+--     Misses        an entry names a filled line whose rule does not match
+--     WalksTo       what an answer means for entries of any content: all entries before the answered one miss
+--     Walks         the same, also where an entry is told as spoilt
+--     Looks         a look-up walks what the area gives to the header's cell
+--     FindsLowest   what a look-up owes in a laid area (Found)
 -- Assumes nothing.
 use Rattle.std.specs.Prelude.{◌≡◌, ℕ, ◌+◌, ◌-◌, ◌^◌, ◌≤◌, false, if◌then◌else◌, List, [], ◌∷◌, ◌++◌, length, take, drop, Some, None, Ok, Err, Option, Result, nat_lt, slice_index, slice_index_or}
 use Rattle.std.specs.Borrow.{Bor}
@@ -30,11 +34,6 @@ block_in bits area cell =
 abbrev pub Hands : Result (List ℕ) Spoilt → Result (Bor (List ℕ)) Spoilt → Type 0
 Hands = MadeOf (λ entries part. part.now ≡ entries)
 
--- the number tried counts the answered entry; with none it is the number of all entries
-abbrev pub Tried : List ℕ → Option ℕ → ℕ → Type 0
-Tried entries None tried = tried ≡ length entries
-Tried entries (Some line) tried = (before : List ℕ) × (behind : List ℕ) × (entries ≡ before ++ (line ∷ behind)) × (tried ≡ length before + 1)
-
 module _ {Header Rule Row : Type 0} (k : Meaning Header Rule Row) where
   -- one entry's own answer, or that of those behind it; an entry that names no filled line spoils the walk
   abbrev pub try_entry : Option Rule → Header → Option ℕ × ℕ → Result (Option ℕ × ℕ) Spoilt → Result (Option ℕ × ℕ) Spoilt
@@ -51,19 +50,19 @@ module _ {Header Rule Row : Type 0} (k : Meaning Header Rule Row) where
     abbrev pub Misses : Header → ℕ → Type 0
     Misses h line = (r : Rule) × (slice_index_or rules line None ≡ Some r) × (k.matches r h ≡ false)
 
-    -- with so many tried before
-    abbrev pub WalksTo : Header → ℕ → List ℕ → Option ℕ → ℕ → Type 0
-    WalksTo h tried entries None end = AllByRecursion (Misses h) entries × (end ≡ tried + length entries)
-    WalksTo h tried entries (Some line) end = (before : List ℕ) × (behind : List ℕ) × (entries ≡ before ++ (line ∷ behind)) × AllByRecursion (Misses h) before × Matches k rules h line × (end ≡ tried + length before + 1)
+    -- the number tried counts the answered entry; with none it is the number of all entries
+    abbrev pub WalksTo : Header → List ℕ → Option ℕ → ℕ → Type 0
+    WalksTo h entries None tried = AllByRecursion (Misses h) entries × (tried ≡ length entries)
+    WalksTo h entries (Some line) tried = (before : List ℕ) × (behind : List ℕ) × (entries ≡ before ++ (line ∷ behind)) × AllByRecursion (Misses h) before × Matches k rules h line × (tried ≡ length before + 1)
 
-    abbrev pub Walks : Header → ℕ → List ℕ → Result (Option ℕ × ℕ) Spoilt → Type 0
-    Walks h tried entries (Ok answer) = WalksTo h tried entries answer.0 answer.1
-    Walks h tried entries (Err Entry) = (before : List ℕ) × (line : ℕ) × (behind : List ℕ) × (entries ≡ before ++ (line ∷ behind)) × AllByRecursion (Misses h) before × (slice_index_or rules line None ≡ None)
-    Walks h tried entries (Err Bounds) = ⊥
+    abbrev pub Walks : Header → List ℕ → Result (Option ℕ × ℕ) Spoilt → Type 0
+    Walks h entries (Ok answer) = WalksTo h entries answer.0 answer.1
+    Walks h entries (Err Entry) = (before : List ℕ) × (line : ℕ) × (behind : List ℕ) × (entries ≡ before ++ (line ∷ behind)) × AllByRecursion (Misses h) before × (slice_index_or rules line None ≡ None)
+    Walks h entries (Err Bounds) = ⊥
 
     -- a look-up walks the entries that the area gives to the header's cell, or tells that they are bad
     abbrev pub Looks : Header → Result (List ℕ) Spoilt → Result (Option ℕ × ℕ) Spoilt → Type 0
-    Looks h (Ok entries) answer = Walks h 0 entries answer
+    Looks h (Ok entries) answer = Walks h entries answer
     Looks h (Err spoilt) answer = answer ≡ Err spoilt
 
     module _ (bits : List ℕ) (h : Header) where
@@ -73,8 +72,8 @@ module _ {Header Rule Row : Type 0} (k : Meaning Header Rule Row) where
       pub record Found (line : Option ℕ) (tried : ℕ) : Type 0 where
         -- the lowest filled line whose rule matches, and none exactly when none matches
         pub lowest : Lowest k rules h line
-        -- its place in the block, counted from 1
-        pub counted : Tried (block k rules bits (cell_of k bits h)) line tried
+        -- its place in the block, counted from 1, and all of the block with none
+        pub counted : WalksTo h (block k rules bits (cell_of k bits h)) line tried
         pub few : tried ≤ largest (sizes k rules bits)
 
       abbrev pub FindsLowest : Result (Option ℕ × ℕ) Spoilt → Type 0
