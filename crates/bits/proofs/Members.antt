@@ -1,8 +1,9 @@
 -- Which numbers a list has.
-use Rattle.std.proofs.Common.{◌≡◌, ℕ, zero, suc, ◌<◌, ◌≤◌, true, false, eqb, List, [], ◌∷◌, length, get_or, take, refl, arith}
+use Rattle.std.proofs.Common.{◌≡◌, ℕ, zero, suc, ◌<◌, ◌≤◌, true, false, not, ◌&&◌, ◌||◌, eqb, List, [], ◌∷◌, length, get_or, take, refl, ⊎_elim, inl, inr, arith}
 use Rattle.std.specs.List.{list_any}
+use Rattle.std.proofs.lemmas.Bool.{cases_Bool, cases_eq, eq-eqb, ne_eqb}
 use Rattle.std.proofs.lemmas.Bool.Decides.{nat_tests}
-use Rattle.bits.specs.Sets.{rising, member, without_bit}
+use Rattle.bits.specs.Sets.{rising, member, with_bit, without_bit}
 
 -- a search through the list finds its members
 pub list_any-member : (b : ℕ) (l : List ℕ) → list_any (λ c. eqb c b) l ≡ member b l
@@ -43,3 +44,26 @@ member_without b out [] m = refl
 member_without b out (c ∷ cs) m =
     let rest = member_without b out cs (grind (arith, nat_tests)) in
     grind (arith, nat_tests)
+
+-- the members of a set with one bit more
+pub member_with : (bit b : ℕ) (l : List ℕ) → member b (with_bit bit l) ≡ (eqb b bit || member b l)
+member_with bit b [] = grind (arith, nat_tests)
+member_with bit b (c ∷ cs) =
+    let rest = member_with bit b cs in
+    grind (arith, nat_tests)
+
+-- the members of a set without one bit
+pub member_left : (out b : ℕ) (l : List ℕ) → rising l ≡ true → member b (without_bit out l) ≡ (not (eqb b out) && member b l)
+member_left out b [] r = grind (arith, nat_tests)
+member_left out b (c ∷ cs) r =
+    let up : rising cs ≡ true = grind (arith, nat_tests) in
+    let rest = member_left out b cs up in
+    let behind = member_behind b c cs r in
+    elim (cases_eq out c) [
+      | inl p ↦ (let once : b ≡ c → member b cs ≡ false = λ q. ⊎_elim (λ m. absurd (omega (arith, behind m))) (λ n. n) (cases_Bool (member b cs)) in
+          rw (eq-eqb out c p) (elim (cases_eq b c) [
+            | inl q ↦ rw (eq-eqb b c q, eq-eqb b out (omega arith)) (once q)
+            | inr n ↦ rw (ne_eqb b c n, ne_eqb b out (λ e. n (omega arith)))
+          ]))
+      | inr n ↦ rw (ne_eqb out c n) (grind (arith, nat_tests))
+    ]

@@ -1,8 +1,8 @@
 // Tables of the seven lines: where their numbers lie, and each refusal.
 use super::bits_tests::pair;
 use bits::Bits;
-use blocks::Refusal;
-use bridge::Bridge;
+use blocks::{Change, Refusal, Tally};
+use bridge::{Bridge, Row};
 use kinds::FaultCode;
 use layout::Spoilt;
 use std::test::Fail;
@@ -68,6 +68,31 @@ fn lays_filled_lines_alone(rt: HostRuntime) {
     let laid = layout::lay::<Bridge>(&lines, &Bits::none(), &mut area, &mut tally);
     assert_eq!(rt; laid, Ok(()));
     assert_eq!(rt; area, [0u32, 5, 0, 1, 2, 4, 5, 0]);
+}
+
+// Whether the table of the seven lines, of which one may be replaced, fits so many places.
+fn fits(change: Option<Change<Row>>, room: usize) -> Option<Result<(), Refusal>> {
+    let bits = pair(1, 2)?;
+    let mut tally = [9u32; 4];
+    Some(Tally::new(&mut tally).fits::<Bridge>(&seven_lines::lines(), change, &bits, room))
+}
+
+// Counted as if line 4 were struck, as if line 3 were put anew, and with no such line.
+#[test]
+fn counts_a_change(rt: HostRuntime) {
+    let lines = seven_lines::lines();
+    assert_eq!(rt; fits(None, 17), Some(Ok(())));
+    assert_eq!(rt; fits(None, 16), Some(Err(Refusal::NoRoom)));
+    let mut line = lines[4];
+    line.mark = false;
+    assert_eq!(rt; fits(Some(Change { place: 4, line }), 16), Some(Ok(())));
+    let line = lines[6];
+    assert_eq!(rt;
+        fits(Some(Change { place: 3, line }), 19),
+        Some(Err(Refusal::NoRoom))
+    );
+    assert_eq!(rt; fits(Some(Change { place: 3, line }), 20), Some(Ok(())));
+    assert_eq!(rt; fits(Some(Change { place: 7, line }), 17), Some(Ok(())));
 }
 
 #[test]

@@ -1,8 +1,10 @@
 // The table of the seven lines for two bits of a header, and what it answers.
-ghost use Rattle.std.specs.Prelude.{◌≡◌, ◌<◌, [], ◌∷◌, length, None, slice_set};
+ghost use Rattle.std.specs.Prelude.{◌≡◌, ◌<◌, [], ◌∷◌, None, Ok, IfOk, slice_set};
 ghost use Rattle.kinds.specs.Lines.{rules_of};
 ghost use Rattle.bridge.specs.Frames.{header_of};
 ghost use Rattle.bridge.specs.Bridge.{bridge};
+ghost use Rattle.layout.specs.LookUp.{FindsLowest};
+ghost use Rattle.seven_lines.specs.Seven.{seven};
 ghost use Rattle.worked_table.specs.Lists.{AnswersFrom};
 
 use super::say;
@@ -38,7 +40,8 @@ impl Book<7> {
     fn new(first: usize, second: usize) -> Book<7>
         requires rising { first < second }
         requires below { second < 1024 }
-        ensures { result.bits ≡ first ∷ second ∷ [] }
+        ensures lines { rules_of bridge result.lines ≡ seven }
+        ensures bits { result.bits ≡ first ∷ second ∷ [] }
     {
         Book {
             lines: seven_lines::lines(),
@@ -58,6 +61,16 @@ impl<const N: usize> Book<N> {
     {
         let header = Header::read(frame)?;
         Ok(layout::look_up::<Bridge>(&self.lines, &self.bits, area, &header))
+    }
+
+    // The lowest line for a header, or none, with the entries tried: from a table of the lines as they are now, laid for this answer.
+    fn answer_anew(&self, header: &Header) -> Result<(Option<usize>, usize), FaultCode>
+        ensures { IfOk result (λ found. FindsLowest bridge (rules_of bridge self.now.lines) self.now.bits header.now (Ok found)) }
+    {
+        let mut area = [0u32; ROOM];
+        let mut tally = [0u32; 4];
+        layout::lay::<Bridge>(&self.lines, &self.bits, &mut area, &mut tally)?;
+        Ok(layout::look_up::<Bridge>(&self.lines, &self.bits, &area, header)?)
     }
 
     // Strikes a line: clears its mark, and leaves its row.
@@ -126,9 +139,11 @@ impl<const N: usize> Book<N> {
     {
         println!(rt; "Line {line} is struck")?;
         self.strike(line);
-        let mut area = [0u32; ROOM];
-        self.lay(rt, &mut area)?;
-        self.say_answer(rt, &area, 0xe0)
+        println!(rt; "Frame beginning e0")?;
+        match self.answer_anew(&seven_lines::header(0xe0)) {
+            Ok((line, tried)) => say::tried(rt, line, tried),
+            Err(code) => println!(rt; "  refused {code}"),
+        }
     }
 
     // Says that an area that is one number too small is left as it was.

@@ -1,5 +1,7 @@
-use Rattle.std.proofs.Common.{◌≡◌, ℕ, List, [], ◌∷◌}
+use Rattle.std.proofs.Common.{◌≡◌, ℕ, List, [], ◌∷◌, sym, ap, ◌∙◌}
+use Rattle.bits.specs.Sets.{rising, member}
 use Rattle.bits.specs.Places.{places}
+use Rattle.bits.proofs.Members.{member_left}
 use Rattle.bits.proofs.Leaving.{moved_up, bits_parted, parted_sound}
 use Rattle.bits.proofs.set.Bits.parted.Goals as goal
 use Rattle.bits.proofs.set.Bits.parted.Goals.{After-kept-p11}
@@ -22,3 +24,9 @@ pub returns-clause-bits : goal.returns-clause-bits
 returns-clause-bits c =
     let d = (goal.at.returns-clause-bits c).After-kept-p11 in
     (parted_sound d.self.inside d.args.out d.args.self.now (after d) d.self.view_is d.self.invariant (is d) d.requires).bits
+
+pub returns-clause-members : goal.returns-clause-members
+returns-clause-members c =
+    let d = (goal.at.returns-clause-members c).After-kept-p11 in
+    λ b. ap (member b) (bits_parted d.self.inside d.args.out d.args.self.now (after d) d.self.view_is d.self.invariant (is d) d.requires)
+        ∙ member_left d.args.out b d.args.self.now (ap rising (sym d.self.view_is) ∙ d.self.invariant.bits.rises)
