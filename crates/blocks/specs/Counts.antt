@@ -1,9 +1,13 @@
 -- What counting refuses, checked in this order.
 --     length_checks   before anything is counted: the lines are few enough, and the tally has a number for each cell
---     count_checks    these, and then whether the table fits
+--     table_checks    these, and then whether the table of some lines fits
 --     began           whether a call that answered so began to count
 -- Assumes nothing.
-use Rattle.std.specs.Prelude.{ℕ, ◌^◌, Bool, true, false, List, [], ◌∷◌, ◌++◌, Ok, Err, Result, nat_lt}
+use Rattle.std.specs.Prelude.{ℕ, ◌^◌, Bool, true, false, List, [], ◌∷◌, ◌++◌, length, Ok, Err, Result, nat_lt}
+use Rattle.kinds.specs.Meaning.{Meaning}
+use Rattle.kinds.specs.Lines.{rules_of}
+use Rattle.kinds.specs.declared.line.Line.{Line}
+use Rattle.blocks.specs.Blocks.{table_size}
 use Rattle.blocks.specs.declared.refusal.Refusal.{Refusal}
 use Rattle.blocks.specs.declared.refusal.Refusal.TheVariants.{TooManyLines, ShortTally, NoRoom}
 
@@ -11,9 +15,9 @@ use Rattle.blocks.specs.declared.refusal.Refusal.TheVariants.{TooManyLines, Shor
 abbrev pub length_checks : (lines bits tally : ℕ) → List (Bool × Refusal)
 length_checks lines bits tally = (nat_lt 16384 lines, TooManyLines) ∷ (nat_lt tally (2 ^ bits), ShortTally) ∷ []
 
--- and by the size of the table and the room for it
-abbrev pub count_checks : (lines bits tally size room : ℕ) → List (Bool × Refusal)
-count_checks lines bits tally size room = length_checks lines bits tally ++ ((nat_lt room size, NoRoom) ∷ [])
+-- and by the room for the table
+abbrev pub table_checks : {Header Rule Row : Type 0} → Meaning Header Rule Row → List (Line Row) → List ℕ → (tally room : ℕ) → List (Bool × Refusal)
+table_checks k lines bits tally room = length_checks (length lines) (length bits) tally ++ ((nat_lt room (table_size k (rules_of k lines) bits), NoRoom) ∷ [])
 
 abbrev pub began : {A : Type 0} → Result A Refusal → Bool
 began (Ok x) = true

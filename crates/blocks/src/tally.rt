@@ -4,7 +4,7 @@ ghost use Rattle.kinds.specs.Checks.{checked};
 ghost use Rattle.kinds.specs.Lines.{rules_of};
 ghost use Rattle.blocks.specs.Blocks.{sizes, table_size};
 ghost use Rattle.blocks.specs.Changes.{changed};
-ghost use Rattle.blocks.specs.Counts.{count_checks};
+ghost use Rattle.blocks.specs.Counts.{table_checks};
 ghost use Rattle.blocks.specs.Plans.{rules_in};
 ghost use Rattle.blocks.specs.Tallies.{SameCells};
 
@@ -76,7 +76,7 @@ impl Tally<'_> {
         bits: &Bits,
         room: usize,
     ) -> Result<(), Refusal>
-        ensures answer { result ≡ checked (count_checks (length lines.now) (length bits.now) (length self.old.cells.now) (table_size K.meaning (rules_of K.meaning (changed change lines.now)) bits.now) room) tt }
+        ensures answer { result ≡ checked (table_checks K.meaning (changed change lines.now) bits.now (length self.old.cells.now) room) tt }
         ensures counted { is_ok result ≡ true → take (2 ^ length bits.now) self.new.cells.now ≡ sizes K.meaning (rules_of K.meaning (changed change lines.now)) bits.now }
         ensures kept { SameCells self.old self.new }
     {
@@ -100,7 +100,7 @@ impl Tally<'_> {
         room: usize,
         judge: &J,
     ) -> Result<u64, Refusal>
-        ensures answer { result ≡ checked (count_checks (length lines.now) (length bits.now) (length self.old.cells.now) (table_size K.meaning (rules_of K.meaning lines.now) bits.now) room) (J.cost judge.now (sizes K.meaning (rules_of K.meaning lines.now) bits.now)) }
+        ensures answer { result ≡ checked (table_checks K.meaning lines.now bits.now (length self.old.cells.now) room) (J.cost judge.now (sizes K.meaning (rules_of K.meaning lines.now) bits.now)) }
         ensures below { IfOk result (λ cost. cost < 2 ^ 63) }
         ensures kept { SameCells self.old self.new }
     {

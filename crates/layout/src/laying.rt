@@ -4,7 +4,7 @@ ghost use Rattle.std.specs.List.{flat_map};
 ghost use Rattle.kinds.specs.Checks.{checked};
 ghost use Rattle.kinds.specs.Lines.{rules_of};
 ghost use Rattle.blocks.specs.Blocks.{table_size, Fits, block, blocks as all_blocks, sizes as all_sizes};
-ghost use Rattle.blocks.specs.Counts.{count_checks, began};
+ghost use Rattle.blocks.specs.Counts.{table_checks, began};
 ghost use Rattle.blocks.specs.Plans.{rules_in};
 ghost use Rattle.layout.specs.Layout.{starts, laid};
 ghost use Rattle.layout.specs.Writing.{written, SameArea};
@@ -74,7 +74,7 @@ pub fn lay<K: Kind>(
     area: &mut [u32],
     tally: &mut [u32],
 ) -> Result<(), Refusal>
-    ensures answer { result ≡ checked (count_checks (length lines.now) (length bits.now) (length tally.old) (table_size K.meaning (rules_of K.meaning lines.now) bits.now) (length area.old)) tt }
+    ensures answer { result ≡ checked (table_checks K.meaning lines.now bits.now (length tally.old) (length area.old)) tt }
     ensures area { area.new ≡ (if is_ok result then laid K.meaning (rules_of K.meaning lines.now) bits.now (length area.old) else area.old) }
     ensures tally { tally.new ≡ (if began result then replicate (length tally.old) 0 else tally.old) }
 {
