@@ -1,4 +1,5 @@
 -- Sets of bits as rising lists.
+--     below_first   a number lies below the first of a list
 --     rising        each number lies above the one before it
 --     member        whether a bit is in a set
 --     with_bit      the set with one bit more, in its place

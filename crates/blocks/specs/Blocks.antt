@@ -1,6 +1,8 @@
 -- Blocks: which lines may match in each cell.
+--     admits_line   whether a line is in a cell's block
 --     block         the block of a cell: in rising order, every filled line whose rule admits the cell
---     sizes         the lengths of all blocks, in cell order
+--     blocks        the blocks of all cells, in cell order
+--     sizes         their lengths
 --     table_size    the places that a table takes: a start for each cell, one for the end, and the entries
 --     Fits          a table fits an area of so many places
 -- Assumes nothing.

@@ -1,4 +1,5 @@
 -- Cells: the values that the chosen bits can have together.
+--     weigh         what a bit's value adds to a number
 --     cell_of       the number made of a header's values at the chosen bits, the first bit most significant
 --     admits_cell   whether a rule admits, at each chosen bit, the value that a cell's number gives it
 -- Assumes nothing.

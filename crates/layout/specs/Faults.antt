@@ -12,5 +12,5 @@ abbrev pub code_of : Spoilt → FaultCode
 code_of spoilt = table_fault 15
 
 abbrev pub spoilt_text : Spoilt → List ℕ
-spoilt_text Bounds = codes "a block lies past the area"
+spoilt_text Bounds = codes "the bounds of a block are bad"
 spoilt_text Entry = codes "an entry names no filled line"

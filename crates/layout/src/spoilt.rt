@@ -31,7 +31,7 @@ impl fmt::Display for Spoilt {
 
     fn fmt<W: fmt::Write>(&self, f: &mut fmt::Formatter<W>) -> fmt::Result {
         f.write_str(match self {
-            Spoilt::Bounds => "a block lies past the area",
+            Spoilt::Bounds => "the bounds of a block are bad",
             Spoilt::Entry => "an entry names no filled line",
         })
     }

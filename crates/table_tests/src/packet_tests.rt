@@ -20,25 +20,19 @@ fn answer(
 
 #[test]
 fn answers_a_packet(rt: HostRuntime) -> Result<(), Fail> {
-    let row = Row {
-        source: 0,
-        source_length: 0,
-        destination: 0,
-        destination_length: 0,
-        source_low: 0,
-        source_high: 65535,
-        destination_low: 53,
-        destination_high: 53,
-        protocol: 17,
-        mask: 255,
-    };
+    let mut row = Row::ALL;
+    row.destination_low = 53;
+    row.destination_high = 53;
     let mut packet = [0u8; 24];
     packet[0] = 0x45;
     packet[9] = 17;
     packet[23] = 53;
     let mut area = [9u32; 9];
     let mut tally = [9u32; 4];
-    assert_eq!(rt; answer(row, &packet, &mut area, &mut tally), Ok((Some(0), 1)));
+    assert_eq!(rt;
+        answer(row, &packet, &mut area, &mut tally),
+        Ok((Some(0), 1))
+    );
     packet[23] = 54;
     assert_eq!(rt; answer(row, &packet, &mut area, &mut tally), Ok((None, 1)));
     let found = answer(row, &packet, &mut area[..8], &mut tally);

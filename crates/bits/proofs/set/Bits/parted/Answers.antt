@@ -29,4 +29,4 @@ pub returns-clause-members : goal.returns-clause-members
 returns-clause-members c =
     let d = (goal.at.returns-clause-members c).After-kept-p11 in
     λ b. ap (member b) (bits_parted d.self.inside d.args.out d.args.self.now (after d) d.self.view_is d.self.invariant (is d) d.requires)
-        ∙ member_left d.args.out b d.args.self.now (ap rising (sym d.self.view_is) ∙ d.self.invariant.bits.rises)
+    ∙ member_left d.args.out b d.args.self.now (ap rising (sym d.self.view_is) ∙ d.self.invariant.bits.rises)
