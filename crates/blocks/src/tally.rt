@@ -109,7 +109,7 @@ impl Tally<'_> {
     }
 }
 
-// What a judge says of some sizes.
+// What a judge says of some sizes. It is a cost by the law of judges, since the sizes have 32 bits.
 fn judged<J: Judge>(judge: &J, sizes: &[u32]) -> u64
     ensures answer { result ≡ J.cost judge.now sizes.now }
     ensures below { result < 2 ^ 63 }
