@@ -7,6 +7,7 @@ use Rattle.bits.specs.Places.{places, bits_in, Sound, IsSound}
 use Rattle.bits.specs.PlacesLaw.{length-used}
 use Rattle.bits.specs.Sets.{below_first, rising, member, with_bit}
 use Rattle.bits.proofs.Places.{below, are_set}
+use Rattle.bits.proofs.Rising.{rising-with_bit}
 
 -- what the places hold after a number has passed them
 abbrev pub handed_on : ℕ → List ℕ → List ℕ
@@ -25,18 +26,6 @@ take-handed_on zero b (c ∷ cs) lt r low le = grind arith
 take-handed_on (suc n) b (c ∷ cs) lt r low le =
     ap (λ (ds : List ℕ). min b c ∷ ds) (take-handed_on n (max b c) cs (omega arith) (grind (arith, nat_tests)) (λ k h. low (suc k) (omega arith)) (omega (arith, low 0 (omega arith))))
     ∙ with_bit_min_max b c (take n cs) r
-
--- a number below a list stays below it as a larger bit joins
-first_with_bit : (b c : ℕ) (cs : List ℕ) → c < b → below_first c cs ≡ true → below_first c (with_bit b cs) ≡ true
-first_with_bit b c [] lt u = grind (arith, nat_tests)
-first_with_bit b c (d ∷ ds) lt u = grind (arith, nat_tests)
-
--- a rising list rises still as a new bit joins
-rising-with_bit : (b : ℕ) (l : List ℕ) → rising l ≡ true → member b l ≡ false → rising (with_bit b l) ≡ true
-rising-with_bit b [] r m = refl
-rising-with_bit b (c ∷ cs) r m =
-    let rest = rising-with_bit b cs (grind (arith, nat_tests)) (grind (arith, nat_tests)) in
-    grind (arith, nat_tests, first_with_bit)
 
 -- the number that goes on is the mark of a free place at last
 free_handed_on : (mark n b k : ℕ) (l : List ℕ) → n ≤ k → k < length l → b ≤ mark → (n ≡ k → b ≡ mark) → ((j : ℕ) → n ≤ j → j < length l → get_or l j 0 ≡ mark) → ((j : ℕ) → j < n → get_or l j 0 ≤ mark) → get_or (handed_on b l) k 0 ≡ mark

@@ -9,6 +9,7 @@ use Rattle.bits.specs.Places.{places, bits_in, Sound, IsSound}
 use Rattle.bits.specs.PlacesLaw.{length-used}
 use Rattle.bits.specs.Sets.{below_first, rising, member, without_bit}
 use Rattle.bits.proofs.Places.{below, are_set}
+use Rattle.bits.proofs.Rising.{rising_without}
 use Rattle.bits.proofs.Members.{member_at, member_some, member_behind, member_last, member_without}
 
 -- what the places hold after a bit has left
@@ -46,20 +47,6 @@ take-moved_up (suc n) out (c ∷ cs) lt r m =
       | inl p ↦ rw (eq-eqb out c p, le-ltb c out (omega arith)) (take_behind n out cs (omega arith) (λ k h. omega (arith, above_first n c cs (omega arith) r k h)))
       | inr ne ↦ grind (arith, nat_tests, member_behind out c (take (suc n) cs) r, take-moved_up n out cs (omega arith) up)
     ]
-
--- a number below a list stays below it as a bit leaves
-first_without : (out c : ℕ) (cs : List ℕ) → rising (c ∷ cs) ≡ true → below_first c (without_bit out cs) ≡ true
-first_without out c [] r = refl
-first_without out c (d ∷ []) r = grind (arith, nat_tests)
-first_without out c (d ∷ e ∷ es) r = grind (arith, nat_tests)
-
--- a rising list rises still as a bit leaves
-rising_without : (out : ℕ) (l : List ℕ) → rising l ≡ true → rising (without_bit out l) ≡ true
-rising_without out [] r = refl
-rising_without out (c ∷ cs) r =
-    let first = first_without out c cs r in
-    let rest = rising_without out cs (grind (arith, nat_tests)) in
-    grind (arith, nat_tests)
 
 -- what may join a set may join it still as another bit leaves
 pub joins_without : (b out : ℕ) (l : List ℕ) → joins b l ≡ true → joins b (without_bit out l) ≡ true

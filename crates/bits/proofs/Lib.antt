@@ -1,4 +1,5 @@
-mod Members
+pub mod Members
+pub mod Rising
 mod Joining
 mod Leaving
 mod Places

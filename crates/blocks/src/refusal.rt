@@ -1,10 +1,9 @@
 // Why a table is not counted or not laid.
-ghost use Rattle.std.specs.Prelude.{◌≡◌, length, Some};
+ghost use Rattle.std.specs.Prelude.{◌≡◌, Some};
 ghost use Rattle.kinds.specs.Checks.{checked};
 ghost use Rattle.blocks.specs.Counts.{length_checks};
 ghost use Rattle.blocks.specs.Faults.{code_of, refusal_text};
 
-use bits::Bits;
 use kinds::FaultCode;
 use std::fmt;
 
@@ -48,14 +47,14 @@ impl fmt::Display for Refusal {
     }
 }
 
-// What is checked before anything is counted: how many lines there are, and how long the tally is.
-pub fn ready(lines: usize, bits: &Bits, tally: usize) -> Result<(), Refusal>
-    ensures { result ≡ checked (length_checks lines (length bits.now) tally) tt }
+// What is checked before anything is counted: how many lines there are, and whether the tally has a number for each of so many cells.
+pub fn ready(lines: usize, cells: usize, tally: usize) -> Result<(), Refusal>
+    ensures { result ≡ checked (length_checks lines cells tally) tt }
 {
     if lines > MOST_LINES {
         return Err(Refusal::TooManyLines);
     }
-    if tally < bits.cells() {
+    if tally < cells {
         return Err(Refusal::ShortTally);
     }
     Ok(())

@@ -80,7 +80,7 @@ impl Tally<'_> {
         ensures counted { is_ok result ≡ true → take (2 ^ length bits.now) self.new.cells.now ≡ sizes K.meaning (rules_of K.meaning (changed change lines.now)) bits.now }
         ensures kept { SameCells self.old self.new }
     {
-        ready(lines.len(), bits, self.cells.len())?;
+        ready(lines.len(), bits.cells(), self.cells.len())?;
         let plan = Plan {
             lines,
             change,

@@ -78,7 +78,7 @@ pub fn lay<K: Kind>(
     ensures area { area.new ≡ (if is_ok result then laid K.meaning (rules_of K.meaning lines.now) bits.now (length area.old) else area.old) }
     ensures tally { tally.new ≡ (if began result then replicate (length tally.old) 0 else tally.old) }
 {
-    blocks::ready(lines.len(), bits, tally.len())?;
+    blocks::ready(lines.len(), bits.cells(), tally.len())?;
     let mut guard = Tally::new(tally);
     guard.fits::<K>(lines, None, bits, area.len())?;
     let plan = Plan {

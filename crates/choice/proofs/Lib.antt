@@ -1,0 +1,3 @@
+pub mod Deterministic
+pub mod Exchanges
+pub mod Reached

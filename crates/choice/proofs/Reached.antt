@@ -1,0 +1,84 @@
+-- What is known of every set that a choice reaches, and of one that settled.
+use Rattle.std.proofs.Common.{◌≡◌, ℕ, ◌+◌, ◌-◌, ◌<◌, ◌≤◌, true, false, not, List, [], ◌∷◌, length, get_or, refl, sym, ap, ◌∙◌, subst, inl, inr, ⊎_elim, arith}
+use Rattle.std.proofs.lemmas.Bool.{cases_lt, cases_eq, cases_Bool, eq-eqb}
+use Rattle.std.proofs.lemmas.Bool.Decides.{nat_tests}
+use Rattle.std.proofs.lemmas.List.{get_or_default}
+use Rattle.bits.specs.Sets.{rising, member, with_bit, without_bit}
+use Rattle.bits.proofs.Facts.{length-with_bit, length_without}
+use Rattle.bits.proofs.Members.{member_with, member_left, member_without}
+use Rattle.bits.proofs.Rising.{rising-with_bit, rising_without}
+use Rattle.choice.specs.Growth.{is_free, Addable, Best, Grown, full, stuck, no_gain, grow}
+use Rattle.choice.specs.Evolution.{exchanged, exchanges, exchange_at, Evolved, settled, stopped, taken}
+use Rattle.choice.specs.Choice.{Chosen, Reached, Unbettered}
+use Rattle.choice.specs.declared.choice.Outcome.{Outcome}
+use Rattle.choice.specs.declared.choice.Outcome.TheVariants.{Settled, Stopped}
+use Rattle.choice.proofs.Exchanges.{all_exchanges, has_exchange}
+
+module _ (Fits : List ℕ → Type 0) (cost : List ℕ → ℕ) (width most : ℕ) where
+  pub reached_none : Fits [] → Reached width Fits cost most []
+  reached_none fits = record { few = omega arith; rises = refl; below = λ b is. absurd (grind (arith, nat_tests)); fits = fits }
+
+  pub reached_with : (bits : List ℕ) (b : ℕ) → Reached width Fits cost most bits → length bits < most → Addable Fits cost width bits b → Reached width Fits cost most (with_bit b bits)
+  reached_with bits b r few add =
+      let new : member b bits ≡ false = grind (arith, nat_tests, add.free) in
+      record {
+        few = omega (arith, length-with_bit b bits);
+        rises = rising-with_bit b bits r.rises new;
+        below = λ c is. elim (cases_eq c b) [
+          | inl p ↦ omega (arith, add.below)
+          | inr n ↦ r.below c (grind (arith, nat_tests, member_with b c bits))
+        ];
+        fits = add.fits;
+      }
+
+  pub reached_exchanged : (bits : List ℕ) (out b : ℕ) → Reached width Fits cost most bits → member out bits ≡ true → b < width → is_free bits b ≡ true → Fits (exchanged bits out b) → Reached width Fits cost most (exchanged bits out b)
+  reached_exchanged bits out b r has below free fits =
+      let new : member b bits ≡ false = grind (arith, nat_tests) in
+      let still : member b (without_bit out bits) ≡ false = member_without b out bits new in
+      record {
+        few = omega (arith, length-with_bit b (without_bit out bits), length_without out bits has, r.few);
+        rises = rising-with_bit b (without_bit out bits) (rising_without out bits r.rises) still;
+        below = λ c is. elim (cases_eq c b) [
+          | inl p ↦ omega arith
+          | inr n ↦ r.below c (grind (arith, nat_tests, member_with b c (without_bit out bits), member_left out c bits r.rises))
+        ];
+        fits = fits;
+      }
+
+  pub reached_at : (bits : List ℕ) (place : ℕ) → Reached width Fits cost most bits → place < length (exchanges width bits) → Fits (exchange_at width bits place) → Reached width Fits cost most (exchange_at width bits place)
+  reached_at bits place r lt = all_exchanges width bits (λ set. Fits set → Reached width Fits cost most set) (λ out b. reached_exchanged bits out b r) place [] lt
+
+  grown_reached : {bits end : List ℕ} → Reached width Fits cost most bits → Grown Fits cost width most bits end → Reached width Fits cost most end
+  grown_reached r (full _) = r
+  grown_reached r (stuck _ _) = r
+  grown_reached r (no_gain _ _ _ _) = r
+  grown_reached r (grow {bits} few b p _ more) = grown_reached (reached_with bits b r few p.addable) more
+
+  evolved_reached : {bits : List ℕ} {left : ℕ} {end : List ℕ} {used : ℕ} {outcome : Outcome} → Reached width Fits cost most bits → Evolved Fits cost width bits left end used outcome → Reached width Fits cost most end
+  evolved_reached r (settled _ _) = r
+  evolved_reached r (stopped _ _) = r
+  evolved_reached r (taken {bits} place _ lt _ better on) = evolved_reached (reached_at bits place r lt better.0) on
+
+  pub chosen_reached : (tries : ℕ) (end : List ℕ) (used : ℕ) (outcome : Outcome) → Fits [] → Chosen width Fits cost most tries end used outcome → Reached width Fits cost most end
+  chosen_reached tries end used outcome fits c = evolved_reached (grown_reached (reached_none fits) c.grows) c.evolves
+
+module _ (Fits : List ℕ → Type 0) (cost : List ℕ → ℕ) (width : ℕ) where
+  -- a settled set is bettered by no exchange
+  evolved_unbettered : {bits : List ℕ} {left : ℕ} {end : List ℕ} {used : ℕ} {outcome : Outcome} → Evolved Fits cost width bits left end used outcome → outcome ≡ Settled → Unbettered width Fits cost end
+  evolved_unbettered (settled {bits} _ none) is out b has below new fits =
+      let found = has_exchange width bits out b has below (grind (arith, nat_tests)) in
+      let at : exchange_at width bits found.0 ≡ exchanged bits out b = get_or_default (exchanges width bits) found.0 [] (exchanged bits out b) found.1 ∙ found.2 in
+      ⊎_elim (λ less. absurd (none found.0 found.1 (rw at (fits, less)))) (λ le. le) (cases_lt (cost (exchanged bits out b)) (cost bits))
+  evolved_unbettered (stopped _ _) is out b has below new fits = absurd (grind (arith, is))
+  evolved_unbettered (taken _ _ _ _ _ on) is out b has below new fits = evolved_unbettered on is out b has below new fits
+
+  evolved_few : {bits : List ℕ} {left : ℕ} {end : List ℕ} {used : ℕ} {outcome : Outcome} → Evolved Fits cost width bits left end used outcome → used ≤ left
+  evolved_few (settled le _) = le
+  evolved_few (stopped _ _) = omega arith
+  evolved_few (taken place lt _ _ _ on) = omega (arith, evolved_few on)
+
+  pub chosen_unbettered : (most tries : ℕ) (end : List ℕ) (used : ℕ) (outcome : Outcome) → Chosen width Fits cost most tries end used outcome → outcome ≡ Settled → Unbettered width Fits cost end
+  chosen_unbettered most tries end used outcome c = evolved_unbettered c.evolves
+
+  pub chosen_few : (most tries : ℕ) (end : List ℕ) (used : ℕ) (outcome : Outcome) → Chosen width Fits cost most tries end used outcome → used ≤ tries
+  chosen_few most tries end used outcome c = evolved_few c.evolves

@@ -1,0 +1,32 @@
+-- The choice of bits for the table of some lines in an area, by a judge.
+--     fits_in      whether the table of a set of bits fits
+--     cost_in      what the judge says of its block sizes
+--     Chosen       growth from no bit, and evolution from the set that it ends at
+--     IsChoice     a choice that is told is the one reached
+--     Reached      what is known of every set that a choice reaches
+--     Unbettered   no exchange of a chosen bit for an unchosen one, whose table fits, costs less
+-- Assumes nothing.
+use Rattle.std.specs.Prelude.{◌≡◌, ℕ, ◌<◌, ◌≤◌, true, false, List, [], length, Option}
+use Rattle.bits.specs.Sets.{rising, member}
+use Rattle.kinds.specs.Meaning.{Meaning}
+use Rattle.kinds.specs.Lines.{rules_of}
+use Rattle.kinds.specs.declared.line.Line.{Line}
+use Rattle.blocks.specs.Blocks.{sizes, Fits}
+use Rattle.choice.specs.Growth.{Grown}
+use Rattle.choice.specs.Evolution.{exchanged, Evolved}
+use Rattle.choice.specs.declared.choice.Outcome.{Outcome}
+
+module _ (width : ℕ) (Fits : List ℕ → Type 0) (cost : List ℕ → ℕ) where
+  pub record Chosen (most tries : ℕ) (bits : List ℕ) (used : ℕ) (outcome : Outcome) : Type 0 where
+    pub grown : List ℕ
+    pub grows : Grown Fits cost width most [] grown
+    pub evolves : Evolved Fits cost width grown tries bits used outcome
+
+  pub record Reached (most : ℕ) (bits : List ℕ) : Type 0 where
+    pub few : length bits ≤ most
+    pub rises : rising bits ≡ true
+    pub below : (b : ℕ) → member b bits ≡ true → b < width
+    pub fits : Fits bits
+
+  abbrev pub Unbettered : List ℕ → Type 0
+  Unbettered bits = (out b : ℕ) → member out bits ≡ true → b < width → member b bits ≡ false → Fits (exchanged bits out b) → cost bits ≤ cost (exchanged bits out b)

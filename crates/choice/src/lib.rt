@@ -1,0 +1,6 @@
+// The choice of bits for a table: Fast-Growth, then Intelli-Evolution. Written once for every kind and judge.
+#![tactic(auto)]
+
+mod choice;
+
+pub use choice::{Choice, Outcome};
