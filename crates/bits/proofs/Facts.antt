@@ -1,5 +1,5 @@
 -- What is known of every set of bits, and how long a set is with one bit more or less.
-use Rattle.std.proofs.Common.{◌≡◌, ℕ, suc, ◌<◌, ◌≤◌, true, List, [], ◌∷◌, length, get_or, refl, ap, inl, inr, arith}
+use Rattle.std.proofs.Common.{◌≡◌, ℕ, suc, ◌+◌, ◌<◌, ◌≤◌, true, List, [], ◌∷◌, length, get_or, refl, ap, inl, inr, arith}
 use Rattle.std.proofs.lemmas.Bool.{cases_eq, cases_lt, eq-eqb, ne_eqb, lt-ltb, le-ltb}
 use Rattle.std.proofs.lemmas.Bool.Decides.{nat_tests}
 use Rattle.bits.specs.Sets.{rising, member, with_bit, without_bit}
@@ -15,9 +15,9 @@ rising_bits s sound = sound.bits.rises
 pub bits_below : (s : Inside) → IsSound s → (k : ℕ) → k < length (bits_in s) → get_or (bits_in s) k 0 < 1024
 bits_below s sound k lt = sound.bits.below k 0 lt
 
-pub length-with_bit : (b : ℕ) (l : List ℕ) → length (with_bit b l) ≡ suc (length l)
-length-with_bit b [] = refl
-length-with_bit b (c ∷ cs) = elim (cases_lt b c) [ inl p ↦ rw (lt-ltb b c p) | inr p ↦ rw (le-ltb b c p) (ap suc (length-with_bit b cs)) ]
+pub length_with : (b : ℕ) (l : List ℕ) → length (with_bit b l) ≡ length l + 1
+length_with b [] = refl
+length_with b (c ∷ cs) = elim (cases_lt b c) [ inl p ↦ rw (lt-ltb b c p) (omega arith) | inr p ↦ rw (le-ltb b c p) (omega (arith, length_with b cs)) ]
 
 pub length_without : (b : ℕ) (l : List ℕ) → member b l ≡ true → suc (length (without_bit b l)) ≡ length l
 length_without b [] m = grind (arith, nat_tests)

@@ -1,5 +1,5 @@
 // A set of bits: its type, what it tells, and the sets that one more bit or an exchange gives.
-ghost use Rattle.std.specs.Prelude.{Some, None, IfSome, ◌≡◌, ℕ, ◌^◌, ◌<◌, ◌≤◌, true, not, ◌&&◌, ◌||◌, ◌==◌, [], length, if◌then◌else◌, nat_lt, slice_index, slice_index_or};
+ghost use Rattle.std.specs.Prelude.{Some, None, IfSome, ◌≡◌, ℕ, ◌+◌, ◌^◌, ◌<◌, ◌≤◌, true, not, ◌&&◌, ◌||◌, ◌==◌, [], length, if◌then◌else◌, nat_lt, slice_index, slice_index_or};
 ghost use Rattle.std.specs.List.{All};
 ghost use Rattle.std.specs.Iterator.{YieldsFirst, item_count};
 ghost use Rattle.bits.specs.Sets.{rising, member, with_bit, without_bit};
@@ -137,10 +137,11 @@ impl Bits {
     }
 
     // The set with one bit more, or none where it is full, has the bit, or the bit is 1,024 or above.
-    #[tactic(auto, using(crate::proofs::Members::member_with))]
+    #[tactic(auto, using(crate::proofs::Members::member_with, crate::proofs::Facts::length_with))]
     pub fn with(&self, bit: usize) -> Option<Bits>
         ensures set { result ≡ (if nat_lt (length self.now) 12 && joins bit self.now then Some (with_bit bit self.now) else None) }
         ensures members { IfSome result (λ set. (b : ℕ) → member b set ≡ (b == bit || member b self.now)) }
+        ensures len { IfSome result (λ set. length set ≡ length self.now + 1) }
         ensures bits { IfSome result IsBits }
     {
         if self.count < 12 && self.admits(bit) {
@@ -151,10 +152,11 @@ impl Bits {
     }
 
     // The set with one bit exchanged for another, or none where the one is not in it or the other may not join.
-    #[tactic(auto, using(crate::proofs::Leaving::joins_without, crate::proofs::Members::member_with))]
+    #[tactic(auto, using(crate::proofs::Leaving::joins_without, crate::proofs::Members::member_with, crate::proofs::Facts::length_with))]
     pub fn exchanged(&self, out: usize, joining: usize) -> Option<Bits>
         ensures set { result ≡ (if member out self.now && joins joining self.now then Some (with_bit joining (without_bit out self.now)) else None) }
         ensures members { IfSome result (λ set. (b : ℕ) → member b set ≡ (b == joining || not (b == out) && member b self.now)) }
+        ensures len { IfSome result (λ set. length set ≡ length self.now) }
         ensures bits { IfSome result IsBits }
     {
         if self.has(out) && self.admits(joining) {
@@ -223,6 +225,7 @@ impl Bits {
         requires { member out self.now ≡ true }
         ensures set { result ≡ without_bit out self.now }
         ensures members { (b : ℕ) → member b result ≡ (not (b == out) && member b self.now) }
+        ensures len { length result + 1 ≡ length self.now }
         ensures room { length result < 12 }
         ensures bits { IsBits result }
     {

@@ -1,3 +1,5 @@
 pub mod Deterministic
 pub mod Exchanges
 pub mod Reached
+pub mod Best
+pub mod Grows

@@ -4,7 +4,7 @@ use Rattle.std.proofs.lemmas.Bool.{cases_lt, cases_eq, cases_Bool, eq-eqb}
 use Rattle.std.proofs.lemmas.Bool.Decides.{nat_tests}
 use Rattle.std.proofs.lemmas.List.{get_or_default}
 use Rattle.bits.specs.Sets.{rising, member, with_bit, without_bit}
-use Rattle.bits.proofs.Facts.{length-with_bit, length_without}
+use Rattle.bits.proofs.Facts.{length_with, length_without}
 use Rattle.bits.proofs.Members.{member_with, member_left, member_without}
 use Rattle.bits.proofs.Rising.{rising-with_bit, rising_without}
 use Rattle.choice.specs.Growth.{is_free, Addable, Best, Grown, full, stuck, no_gain, grow}
@@ -15,14 +15,14 @@ use Rattle.choice.specs.declared.choice.Outcome.TheVariants.{Settled, Stopped}
 use Rattle.choice.proofs.Exchanges.{all_exchanges, has_exchange}
 
 module _ (Fits : List ℕ → Type 0) (cost : List ℕ → ℕ) (width most : ℕ) where
-  pub reached_none : Fits [] → Reached width Fits cost most []
+  pub reached_none : Fits [] → Reached width Fits most []
   reached_none fits = record { few = omega arith; rises = refl; below = λ b is. absurd (grind (arith, nat_tests)); fits = fits }
 
-  pub reached_with : (bits : List ℕ) (b : ℕ) → Reached width Fits cost most bits → length bits < most → Addable Fits cost width bits b → Reached width Fits cost most (with_bit b bits)
+  pub reached_with : (bits : List ℕ) (b : ℕ) → Reached width Fits most bits → length bits < most → Addable Fits width bits b → Reached width Fits most (with_bit b bits)
   reached_with bits b r few add =
       let new : member b bits ≡ false = grind (arith, nat_tests, add.free) in
       record {
-        few = omega (arith, length-with_bit b bits);
+        few = omega (arith, length_with b bits);
         rises = rising-with_bit b bits r.rises new;
         below = λ c is. elim (cases_eq c b) [
           | inl p ↦ omega (arith, add.below)
@@ -31,12 +31,12 @@ module _ (Fits : List ℕ → Type 0) (cost : List ℕ → ℕ) (width most : �
         fits = add.fits;
       }
 
-  pub reached_exchanged : (bits : List ℕ) (out b : ℕ) → Reached width Fits cost most bits → member out bits ≡ true → b < width → is_free bits b ≡ true → Fits (exchanged bits out b) → Reached width Fits cost most (exchanged bits out b)
+  pub reached_exchanged : (bits : List ℕ) (out b : ℕ) → Reached width Fits most bits → member out bits ≡ true → b < width → is_free bits b ≡ true → Fits (exchanged bits out b) → Reached width Fits most (exchanged bits out b)
   reached_exchanged bits out b r has below free fits =
       let new : member b bits ≡ false = grind (arith, nat_tests) in
       let still : member b (without_bit out bits) ≡ false = member_without b out bits new in
       record {
-        few = omega (arith, length-with_bit b (without_bit out bits), length_without out bits has, r.few);
+        few = omega (arith, length_with b (without_bit out bits), length_without out bits has, r.few);
         rises = rising-with_bit b (without_bit out bits) (rising_without out bits r.rises) still;
         below = λ c is. elim (cases_eq c b) [
           | inl p ↦ omega arith
@@ -45,21 +45,21 @@ module _ (Fits : List ℕ → Type 0) (cost : List ℕ → ℕ) (width most : �
         fits = fits;
       }
 
-  pub reached_at : (bits : List ℕ) (place : ℕ) → Reached width Fits cost most bits → place < length (exchanges width bits) → Fits (exchange_at width bits place) → Reached width Fits cost most (exchange_at width bits place)
-  reached_at bits place r lt = all_exchanges width bits (λ set. Fits set → Reached width Fits cost most set) (λ out b. reached_exchanged bits out b r) place [] lt
+  pub reached_at : (bits : List ℕ) (place : ℕ) → Reached width Fits most bits → place < length (exchanges width bits) → Fits (exchange_at width bits place) → Reached width Fits most (exchange_at width bits place)
+  reached_at bits place r lt = all_exchanges width bits (λ set. Fits set → Reached width Fits most set) (λ out b. reached_exchanged bits out b r) place [] lt
 
-  grown_reached : {bits end : List ℕ} → Reached width Fits cost most bits → Grown Fits cost width most bits end → Reached width Fits cost most end
+  grown_reached : {bits end : List ℕ} → Reached width Fits most bits → Grown Fits cost width most bits end → Reached width Fits most end
   grown_reached r (full _) = r
   grown_reached r (stuck _ _) = r
   grown_reached r (no_gain _ _ _ _) = r
   grown_reached r (grow {bits} few b p _ more) = grown_reached (reached_with bits b r few p.addable) more
 
-  evolved_reached : {bits : List ℕ} {left : ℕ} {end : List ℕ} {used : ℕ} {outcome : Outcome} → Reached width Fits cost most bits → Evolved Fits cost width bits left end used outcome → Reached width Fits cost most end
+  evolved_reached : {bits : List ℕ} {left : ℕ} {end : List ℕ} {used : ℕ} {outcome : Outcome} → Reached width Fits most bits → Evolved Fits cost width bits left end used outcome → Reached width Fits most end
   evolved_reached r (settled _ _) = r
   evolved_reached r (stopped _ _) = r
   evolved_reached r (taken {bits} place _ lt _ better on) = evolved_reached (reached_at bits place r lt better.0) on
 
-  pub chosen_reached : (tries : ℕ) (end : List ℕ) (used : ℕ) (outcome : Outcome) → Fits [] → Chosen width Fits cost most tries end used outcome → Reached width Fits cost most end
+  pub chosen_reached : (tries : ℕ) (end : List ℕ) (used : ℕ) (outcome : Outcome) → Fits [] → Chosen width Fits cost most tries end used outcome → Reached width Fits most end
   chosen_reached tries end used outcome fits c = evolved_reached (grown_reached (reached_none fits) c.grows) c.evolves
 
 module _ (Fits : List ℕ → Type 0) (cost : List ℕ → ℕ) (width : ℕ) where

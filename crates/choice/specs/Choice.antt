@@ -1,5 +1,5 @@
 -- The choice of bits for the table of some lines in an area, by a judge.
---     fits_in      whether the table of a set of bits fits
+--     FitsIn       whether the table of a set of bits fits
 --     cost_in      what the judge says of its block sizes
 --     Chosen       growth from no bit, and evolution from the set that it ends at
 --     IsChoice     a choice that is told is the one reached
@@ -16,17 +16,25 @@ use Rattle.choice.specs.Growth.{Grown}
 use Rattle.choice.specs.Evolution.{exchanged, Evolved}
 use Rattle.choice.specs.declared.choice.Outcome.{Outcome}
 
-module _ (width : ℕ) (Fits : List ℕ → Type 0) (cost : List ℕ → ℕ) where
-  pub record Chosen (most tries : ℕ) (bits : List ℕ) (used : ℕ) (outcome : Outcome) : Type 0 where
-    pub grown : List ℕ
-    pub grows : Grown Fits cost width most [] grown
-    pub evolves : Evolved Fits cost width grown tries bits used outcome
-
+module _ (width : ℕ) (Fits : List ℕ → Type 0) where
   pub record Reached (most : ℕ) (bits : List ℕ) : Type 0 where
     pub few : length bits ≤ most
     pub rises : rising bits ≡ true
     pub below : (b : ℕ) → member b bits ≡ true → b < width
     pub fits : Fits bits
 
-  abbrev pub Unbettered : List ℕ → Type 0
-  Unbettered bits = (out b : ℕ) → member out bits ≡ true → b < width → member b bits ≡ false → Fits (exchanged bits out b) → cost bits ≤ cost (exchanged bits out b)
+  module _ (cost : List ℕ → ℕ) where
+    pub record Chosen (most tries : ℕ) (bits : List ℕ) (used : ℕ) (outcome : Outcome) : Type 0 where
+      pub grown : List ℕ
+      pub grows : Grown Fits cost width most [] grown
+      pub evolves : Evolved Fits cost width grown tries bits used outcome
+
+    abbrev pub Unbettered : List ℕ → Type 0
+    Unbettered bits = (out b : ℕ) → member out bits ≡ true → b < width → member b bits ≡ false → Fits (exchanged bits out b) → cost bits ≤ cost (exchanged bits out b)
+
+module _ {Header Rule Row : Type 0} (k : Meaning Header Rule Row) (lines : List (Line Row)) where
+  abbrev pub FitsIn : ℕ → List ℕ → Type 0
+  FitsIn room bits = Fits k (rules_of k lines) bits room
+
+  abbrev pub cost_in : (List ℕ → ℕ) → List ℕ → ℕ
+  cost_in judge bits = judge (sizes k (rules_of k lines) bits)

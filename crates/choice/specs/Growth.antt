@@ -11,20 +11,21 @@ use Rattle.bits.specs.Sets.{member, with_bit}
 abbrev pub is_free : List ℕ → ℕ → Bool
 is_free bits b = not (member b bits)
 
-module _ (Fits : List ℕ → Type 0) (cost : List ℕ → ℕ) where
+module _ (Fits : List ℕ → Type 0) where
   pub record Addable (width : ℕ) (bits : List ℕ) (b : ℕ) : Type 0 where
     pub below : b < width
     pub free : is_free bits b ≡ true
     pub fits : Fits (with_bit b bits)
 
-  pub record Best (width : ℕ) (bits : List ℕ) (b : ℕ) : Type 0 where
-    pub addable : Addable width bits b
-    pub least : (c : ℕ) → Addable width bits c → cost (with_bit b bits) ≤ cost (with_bit c bits)
-    pub lowest : (c : ℕ) → Addable width bits c → cost (with_bit c bits) ≡ cost (with_bit b bits) → b ≤ c
+  module _ (cost : List ℕ → ℕ) where
+    pub record Best (width : ℕ) (bits : List ℕ) (b : ℕ) : Type 0 where
+      pub addable : Addable width bits b
+      pub least : (c : ℕ) → Addable width bits c → cost (with_bit b bits) ≤ cost (with_bit c bits)
+      pub lowest : (c : ℕ) → Addable width bits c → cost (with_bit c bits) ≡ cost (with_bit b bits) → b ≤ c
 
-  -- below so many bits; it ends there, where no table fits, or where the best bit gains nothing
-  pub data Grown (width most : ℕ) : List ℕ → List ℕ → Type 0 where
-    full : {bits : List ℕ} → most ≤ length bits → Grown width most bits bits
-    stuck : {bits : List ℕ} → length bits < most → ((b : ℕ) → Addable width bits b → ⊥) → Grown width most bits bits
-    no_gain : {bits : List ℕ} → length bits < most → (b : ℕ) → Best width bits b → cost bits ≤ cost (with_bit b bits) → Grown width most bits bits
-    grow : {bits end : List ℕ} → length bits < most → (b : ℕ) → Best width bits b → cost (with_bit b bits) < cost bits → Grown width most (with_bit b bits) end → Grown width most bits end
+    -- below so many bits; it ends there, where no table fits, or where the best bit gains nothing
+    pub data Grown (width most : ℕ) : List ℕ → List ℕ → Type 0 where
+      full : {bits : List ℕ} → most ≤ length bits → Grown width most bits bits
+      stuck : {bits : List ℕ} → length bits < most → ((b : ℕ) → Addable width bits b → ⊥) → Grown width most bits bits
+      no_gain : {bits : List ℕ} → length bits < most → (b : ℕ) → Best width bits b → cost bits ≤ cost (with_bit b bits) → Grown width most bits bits
+      grow : {bits end : List ℕ} → length bits < most → (b : ℕ) → Best width bits b → cost (with_bit b bits) < cost bits → Grown width most (with_bit b bits) end → Grown width most bits end

@@ -1,3 +1,4 @@
 pub mod Growth
 pub mod Evolution
 pub mod Choice
+pub mod Offers

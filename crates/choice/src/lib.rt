@@ -2,5 +2,7 @@
 #![tactic(auto)]
 
 mod choice;
+mod grow;
+mod search;
 
 pub use choice::{Choice, Outcome};

@@ -1,0 +1,69 @@
+// Fast-Growth: the best bit is added, one at a time, while that gains.
+ghost use Rattle.std.specs.Prelude.{◌≡◌, ◌+◌, ◌^◌, ◌<◌, ◌≤◌, length, None, if◌then◌else◌};
+ghost use Rattle.bits.specs.Sets.{with_bit};
+ghost use Rattle.blocks.specs.Tallies.{SameCells};
+ghost use Rattle.choice.specs.Growth.{is_free, Grown};
+ghost use Rattle.choice.specs.Choice.{FitsIn, cost_in};
+ghost use Rattle.choice.specs.Offers.{offer_of, IsBest};
+
+use super::search::{Offer, Search};
+use bits::Bits;
+use blocks::Tally;
+use judges::Judge;
+use kinds::Kind;
+
+impl<R: Copy, J: Judge> Search<'_, R, J> {
+    // The set with one bit more, or none where that is in it or the table does not fit.
+    fn offer_with<K: Kind<Row = R>>(
+        &self,
+        tally: &mut Tally,
+        bits: &Bits,
+        bit: usize,
+    ) -> Option<Offer>
+        requires below { bit < 1024 }
+        requires few { length bits.now < 12 }
+        requires room { 2 ^ (length bits.now + 1) ≤ length tally.old.cells.now }
+        ensures answer { result ≡ (if is_free bits.now bit then offer_of K.meaning self.now.lines.now self.now.room (J.cost self.now.judge.now) (with_bit bit bits.now) else None) }
+        ensures kept { SameCells tally.old tally.new }
+    {
+        self.offer::<K>(tally, bits.with(bit)?)
+    }
+
+    // The set with the best bit more, or none where no bit may be added.
+    fn best<K: Kind<Row = R>>(&self, tally: &mut Tally, bits: &Bits) -> Option<Offer>
+        requires few { length bits.now < 12 }
+        requires room { 2 ^ (length bits.now + 1) ≤ length tally.old.cells.now }
+        ensures answer { IsBest (FitsIn K.meaning self.now.lines.now self.now.room) (cost_in K.meaning self.now.lines.now (J.cost self.now.judge.now)) K.meaning.width bits.now result }
+        ensures kept { SameCells tally.old tally.new }
+    {
+        let mut best: Option<Offer> = None;
+        for bit in 0..K::width() {
+            best = Offer::cheaper(best, self.offer_with::<K>(tally, bits, bit));
+        }
+        best
+    }
+
+    // The set at which growth from a set ends, at most so many bits.
+    pub(crate) fn grow<K: Kind<Row = R>>(
+        &self,
+        tally: &mut Tally,
+        start: Offer,
+        most: usize,
+    ) -> Offer
+        requires few { most ≤ 12 }
+        requires room { 2 ^ most ≤ length tally.old.cells.now }
+        requires costed { start.cost ≡ cost_in K.meaning self.now.lines.now (J.cost self.now.judge.now) start.bits }
+        ensures grown { Grown (FitsIn K.meaning self.now.lines.now self.now.room) (cost_in K.meaning self.now.lines.now (J.cost self.now.judge.now)) K.meaning.width most start.bits result.bits }
+        ensures costed { result.cost ≡ cost_in K.meaning self.now.lines.now (J.cost self.now.judge.now) result.bits }
+        ensures kept { SameCells tally.old tally.new }
+    {
+        let mut present = start;
+        while present.bits.len() < most {
+            match self.best::<K>(tally, &present.bits) {
+                Some(next) if next.cost < present.cost => present = next,
+                _ => break,
+            }
+        }
+        present
+    }
+}
