@@ -3,3 +3,4 @@ pub mod Exchanges
 pub mod Reached
 pub mod Best
 pub mod Grows
+pub mod Tries

@@ -2,3 +2,4 @@ pub mod Growth
 pub mod Evolution
 pub mod Choice
 pub mod Offers
+pub mod Tries

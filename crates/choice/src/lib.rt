@@ -2,6 +2,7 @@
 #![tactic(auto)]
 
 mod choice;
+mod evolve;
 mod grow;
 mod search;
 

@@ -1,0 +1,85 @@
+// Intelli-Evolution: a chosen bit is exchanged for another, one at a time, while that gains.
+ghost use Rattle.std.specs.Prelude.{◌≡◌, ◌^◌, ◌≤◌, true, length, map};
+ghost use Rattle.bits.specs.Sets.{member};
+ghost use Rattle.blocks.specs.Tallies.{SameCells};
+ghost use Rattle.choice.specs.Evolution.{unchosen, exchanged, exchanges};
+ghost use Rattle.choice.specs.Offers.{offer_of};
+ghost use Rattle.choice.specs.Tries.{try_of, tries_of};
+
+use super::search::{Offer, Search};
+use bits::Bits;
+use blocks::Tally;
+use judges::Judge;
+use kinds::Kind;
+use std::ops::ControlFlow;
+
+// How going through exchanges ends before all have passed.
+pub(crate) enum Ended {
+    // One is taken, and so many tries are left.
+    Taken(Offer, u32),
+    // The tries are spent.
+    Spent,
+}
+
+impl<R: Copy, J: Judge> Search<'_, R, J> {
+    // Tries a set, where a try is left: takes it if it costs less, and else goes on with a try less.
+    fn try_one<K: Kind<Row = R>>(
+        &self,
+        tally: &mut Tally,
+        cost: u64,
+        bits: Bits,
+        left: u32,
+    ) -> ControlFlow<Ended, u32>
+        requires { 2 ^ length bits ≤ length tally.old.cells.now }
+        ensures answer { result ≡ try_of (offer_of K.meaning self.now.lines.now self.now.room (J.cost self.now.judge.now)) cost bits left }
+        ensures kept { SameCells tally.old tally.new }
+    {
+        if left == 0 {
+            return ControlFlow::Break(Ended::Spent);
+        }
+        match self.offer::<K>(tally, bits) {
+            Some(next) if next.cost < cost => ControlFlow::Break(Ended::Taken(next, left - 1)),
+            _ => ControlFlow::Continue(left - 1),
+        }
+    }
+
+    // Tries the sets with one bit out, and each unchosen bit in, rising.
+    fn try_without<K: Kind<Row = R>>(
+        &self,
+        tally: &mut Tally,
+        present: &Offer,
+        out: usize,
+        tries: u32,
+    ) -> ControlFlow<Ended, u32>
+        requires has { member out present.now.bits ≡ true }
+        requires room { 2 ^ length present.now.bits ≤ length tally.old.cells.now }
+        ensures answer { result ≡ tries_of (offer_of K.meaning self.now.lines.now self.now.room (J.cost self.now.judge.now)) present.now.cost (map (exchanged present.now.bits out) (unchosen K.meaning.width present.now.bits)) tries }
+        ensures kept { SameCells tally.old tally.new }
+    {
+        let mut left = tries;
+        for joining in 0..K::width() {
+            if let Some(bits) = present.bits.exchanged(out, joining) {
+                left = self.try_one::<K>(tally, present.cost, bits, left)?;
+            }
+        }
+        ControlFlow::Continue(left)
+    }
+
+    // Tries all exchanges: the bit out rising, and for each the bit in, rising.
+    fn try_exchanges<K: Kind<Row = R>>(
+        &self,
+        tally: &mut Tally,
+        present: &Offer,
+        tries: u32,
+    ) -> ControlFlow<Ended, u32>
+        requires { 2 ^ length present.now.bits ≤ length tally.old.cells.now }
+        ensures answer { result ≡ tries_of (offer_of K.meaning self.now.lines.now self.now.room (J.cost self.now.judge.now)) present.now.cost (exchanges K.meaning.width present.now.bits) tries }
+        ensures kept { SameCells tally.old tally.new }
+    {
+        let mut left = tries;
+        for out in &present.bits {
+            left = self.try_without::<K>(tally, present, out, left)?;
+        }
+        ControlFlow::Continue(left)
+    }
+}
