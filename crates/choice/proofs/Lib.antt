@@ -4,3 +4,4 @@ pub mod Reached
 pub mod Best
 pub mod Grows
 pub mod Tries
+pub mod Evolves

@@ -2,10 +2,12 @@
 ghost use Rattle.std.specs.Prelude.{◌≡◌, ◌^◌, ◌≤◌, true, length, map};
 ghost use Rattle.bits.specs.Sets.{member};
 ghost use Rattle.blocks.specs.Tallies.{SameCells};
-ghost use Rattle.choice.specs.Evolution.{unchosen, exchanged, exchanges};
+ghost use Rattle.choice.specs.Choice.{FitsIn, cost_in};
+ghost use Rattle.choice.specs.Evolution.{unchosen, exchanged, exchanges, Evolved};
 ghost use Rattle.choice.specs.Offers.{offer_of};
 ghost use Rattle.choice.specs.Tries.{try_of, tries_of};
 
+use super::choice::{Choice, Outcome};
 use super::search::{Offer, Search};
 use bits::Bits;
 use blocks::Tally;
@@ -81,5 +83,43 @@ impl<R: Copy, J: Judge> Search<'_, R, J> {
             left = self.try_without::<K>(tally, present, out, left)?;
         }
         ControlFlow::Continue(left)
+    }
+
+    // The choice that evolution from a set ends with, after so many tries at most.
+    pub(crate) fn evolve<K: Kind<Row = R>>(
+        &self,
+        tally: &mut Tally,
+        start: Offer,
+        tries: u32,
+    ) -> Choice
+        requires room { 2 ^ length start.bits ≤ length tally.old.cells.now }
+        requires costed { start.cost ≡ cost_in K.meaning self.now.lines.now (J.cost self.now.judge.now) start.bits }
+        ensures evolved { Evolved (FitsIn K.meaning self.now.lines.now self.now.room) (cost_in K.meaning self.now.lines.now (J.cost self.now.judge.now)) K.meaning.width start.bits tries result.bits result.tries result.outcome }
+        ensures kept { SameCells tally.old tally.new }
+    {
+        let mut present = start;
+        let mut left = tries;
+        loop {
+            match self.try_exchanges::<K>(tally, &present, left) {
+                ControlFlow::Break(Ended::Taken(next, now)) => {
+                    present = next;
+                    left = now;
+                }
+                ControlFlow::Break(Ended::Spent) => {
+                    return Choice {
+                        bits: present.bits,
+                        tries,
+                        outcome: Outcome::Stopped,
+                    };
+                }
+                ControlFlow::Continue(now) => {
+                    return Choice {
+                        bits: present.bits,
+                        tries: tries - now,
+                        outcome: Outcome::Settled,
+                    };
+                }
+            }
+        }
     }
 }
