@@ -1,9 +1,8 @@
 -- The best bit among those below a number, one number at a time.
-use Rattle.std.proofs.Common.{◌≡◌, ℕ, ◌+◌, ◌-◌, ◌<◌, ◌≤◌, Bool, true, false, not, cond, List, [], ◌∷◌, length, Some, None, Option, refl, sym, ap, ◌∙◌, subst, inl, inr, ⊎_elim, arith}
-use Rattle.std.proofs.lemmas.Bool.{cases_lt, cases_eq, cases_Bool, cases_order, eq-eqb, lt-ltb, le-ltb}
-use Rattle.std.proofs.lemmas.Bool.Decides.{nat_tests}
+use Rattle.std.proofs.Common.{◌≡◌, ℕ, ◌+◌, ◌<◌, ◌≤◌, List, Some, None, Option, ap, ◌∙◌, subst, inl, inr, arith}
+use Rattle.std.proofs.lemmas.Bool.{cases_lt, cases_eq, lt-ltb, le-ltb}
 use Rattle.bits.specs.Sets.{with_bit}
-use Rattle.choice.specs.Growth.{is_free, Addable, Best}
+use Rattle.choice.specs.Growth.{Addable}
 use Rattle.choice.specs.Offers.{cheaper_of, Leads, IsBest}
 use Rattle.choice.specs.declared.search.Offer.{Offer}
 

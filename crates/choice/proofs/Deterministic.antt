@@ -1,8 +1,8 @@
 -- A choice ends in one way only: the same set, after as many tries, settled or stopped.
-use Rattle.std.proofs.Common.{◌≡◌, ℕ, ◌+◌, ◌-◌, ◌<◌, ◌≤◌, List, [], length, get_or, refl, sym, ap, subst, ⊎_elim, arith}
+use Rattle.std.proofs.Common.{◌≡◌, ℕ, ◌+◌, ◌-◌, List, refl, sym, ap, subst, ⊎_elim, arith}
 use Rattle.std.proofs.lemmas.Bool.{cases_order}
 use Rattle.choice.specs.Growth.{Best, Grown, full, stuck, no_gain, grow}
-use Rattle.choice.specs.Evolution.{exchanges, exchange_at, Better, NoneBetter, Evolved, settled, stopped, taken}
+use Rattle.choice.specs.Evolution.{exchange_at, Better, NoneBetter, Evolved, settled, stopped, taken}
 use Rattle.choice.specs.Choice.{Chosen}
 use Rattle.choice.specs.declared.choice.Outcome.{Outcome}
 use Rattle.bits.specs.Sets.{with_bit}

@@ -1,18 +1,18 @@
 -- How going through all exchanges ends, and what follows for the evolution.
-use Rattle.std.proofs.Common.{◌≡◌, ℕ, zero, suc, ◌+◌, ◌-◌, ◌<◌, ◌≤◌, Bool, true, false, not, cond, List, [], ◌∷◌, length, get_or, Some, None, Option, refl, sym, ap, ◌∙◌, subst, inl, inr, arith}
+use Rattle.std.proofs.Common.{◌≡◌, ℕ, zero, suc, ◌+◌, ◌-◌, ◌<◌, ◌≤◌, List, [], ◌∷◌, length, get_or, refl, ap, ◌∙◌, subst, inl, inr, arith}
 use Rattle.std.specs.declared.ops.ControlFlow.{ControlFlow}
 use Rattle.std.specs.declared.ops.ControlFlow.TheVariants.{Continue, Break}
 use Rattle.std.proofs.lemmas.Bool.{cases_lt, cases_eq, eq-eqb, ne_eqb, lt-ltb, le-ltb}
-use Rattle.bits.specs.Sets.{with_bit, without_bit}
+use Rattle.bits.specs.Sets.{without_bit}
 use Rattle.bits.proofs.Facts.{length_with, length_without}
 use Rattle.kinds.specs.Meaning.{Meaning}
 use Rattle.kinds.specs.Lines.{rules_of}
 use Rattle.kinds.specs.declared.line.Line.{Line}
 use Rattle.blocks.specs.Blocks.{table_size}
 use Rattle.choice.specs.Choice.{FitsIn, cost_in}
-use Rattle.choice.specs.Evolution.{exchanged, exchanges, exchange_at, Evolved, settled, stopped, taken}
+use Rattle.choice.specs.Evolution.{exchanges, Evolved, settled, stopped, taken}
 use Rattle.choice.specs.Offers.{offer_of}
-use Rattle.choice.specs.Tries.{going_on, after_try, try_of, tries_of}
+use Rattle.choice.specs.Tries.{going_on, after_try, tries_of}
 use Rattle.choice.specs.declared.choice.Outcome.{Outcome}
 use Rattle.choice.specs.declared.choice.Outcome.TheVariants.{Settled, Stopped}
 use Rattle.choice.specs.declared.search.Offer.{Offer}
@@ -78,9 +78,9 @@ module _ {Header Rule Row : Type 0} (k : Meaning Header Rule Row) (lines : List 
   pub ends : (sets : List (List ℕ)) (left : ℕ) → EndsBy sets left (tries_of (offer_of k lines room judge) price sets left)
   ends [] left = (omega arith, λ place lt. absurd (omega arith))
   ends (set ∷ sets) left = elim (cases_eq left 0) [
-        | inl none ↦ rw (eq-eqb left 0 none) (omega arith, λ place lt. absurd (omega arith))
-        | inr some ↦ rw (ne_eqb left 0 some) (tried set sets left (omega arith) (ends sets))
-      ]
+    | inl none ↦ rw (eq-eqb left 0 none) (omega arith, λ place lt. absurd (omega arith))
+    | inr some ↦ rw (ne_eqb left 0 some) (tried set sets left (omega arith) (ends sets))
+  ]
 
 -- an equal count of tries
 pub as_used : {Fits : List ℕ → Type 0} {cost : List ℕ → ℕ} {width : ℕ} {bits : List ℕ} {left : ℕ} {end : List ℕ} {used : ℕ} {outcome : Outcome} (all : ℕ) → used ≡ all → Evolved Fits cost width bits left end used outcome → Evolved Fits cost width bits left end all outcome

@@ -1,14 +1,13 @@
 -- Which sets the exchanges of a set are: each chosen bit for each unchosen one, and no others.
-use Rattle.std.proofs.Common.{◌≡◌, ℕ, zero, suc, ◌+◌, ◌<◌, Bool, true, false, not, cond, List, [], ◌∷◌, ◌++◌, map, filter, length, get_or, refl, ap, ◌∙◌, inl, inr, arith}
+use Rattle.std.proofs.Common.{◌≡◌, ℕ, zero, suc, ◌<◌, Bool, true, List, [], ◌∷◌, map, filter, get_or, refl, ap, ◌∙◌, inl, inr, arith}
 use Rattle.std.specs.List.{All, Contains, flat_map, range_with_len}
-use Rattle.std.proofs.lemmas.Bool.{cases_Bool, cases_eq, eq-eqb, ne_eqb}
+use Rattle.std.proofs.lemmas.Bool.{cases_Bool, cases_eq, eq-eqb}
 use Rattle.std.proofs.lemmas.Bool.Decides.{nat_tests}
-use Rattle.std.proofs.lemmas.List.{get_or_default}
 use Rattle.std.proofs.lemmas.List.FromFn.{length-range_with_len, get_or-range_with_len}
 use Rattle.std.proofs.lemmas.List.Elements.{All-nil, All-append, All-map, All-filter, filter_passes, Contains-append_left, Contains-append_right}
 use Rattle.bits.specs.Sets.{member}
 use Rattle.choice.specs.Growth.{is_free}
-use Rattle.choice.specs.Evolution.{unchosen, exchanged, exchanges, exchange_at}
+use Rattle.choice.specs.Evolution.{unchosen, exchanged, exchanges}
 
 Contains_first : {X : Type 0} (x : X) (xs : List X) → Contains (x ∷ xs) x
 Contains_first x xs = (0, omega arith, refl)
@@ -45,9 +44,9 @@ member_contains b (c ∷ cs) (suc k, lt, e) = let rest = member_contains b cs (k
 contains_member : (b : ℕ) (l : List ℕ) → member b l ≡ true → Contains l b
 contains_member b [] is = absurd (grind (arith, nat_tests))
 contains_member b (c ∷ cs) is = elim (cases_eq b c) [
-      | inl p ↦ (0, omega arith, omega arith)
-      | inr n ↦ Contains_later c b cs (contains_member b cs (grind (arith, nat_tests)))
-    ]
+  | inl p ↦ (0, omega arith, omega arith)
+  | inr n ↦ Contains_later c b cs (contains_member b cs (grind (arith, nat_tests)))
+]
 
 module _ (width : ℕ) (bits : List ℕ) where
   all_unchosen : All (λ b. (b < width) × (is_free bits b ≡ true)) (unchosen width bits)

@@ -1,15 +1,14 @@
 -- One turn of the search for the best bit, and of growth.
-use Rattle.std.proofs.Common.{◌≡◌, ℕ, ◌+◌, ◌-◌, ◌^◌, ◌<◌, ◌≤◌, Bool, true, false, not, cond, List, [], ◌∷◌, length, Some, None, Option, refl, sym, ap, ◌∙◌, subst, inl, inr, ⊎_elim, arith}
+use Rattle.std.proofs.Common.{◌≡◌, ℕ, ◌+◌, ◌^◌, ◌<◌, ◌≤◌, cond, List, length, None, Option, refl, subst, inl, inr, arith}
 use Rattle.std.proofs.Math.Pow.{pow_mono}
 use Rattle.std.proofs.lemmas.Bool.{cases_lt, cases_Bool, lt-ltb, le-ltb}
 use Rattle.std.proofs.lemmas.Bool.Decides.{nat_tests}
 use Rattle.bits.specs.Sets.{with_bit}
-use Rattle.bits.proofs.Facts.{length_with}
 use Rattle.kinds.specs.Meaning.{Meaning}
 use Rattle.kinds.specs.Lines.{rules_of}
 use Rattle.kinds.specs.declared.line.Line.{Line}
 use Rattle.blocks.specs.Blocks.{table_size}
-use Rattle.choice.specs.Growth.{is_free, Addable, Best, Grown, full, stuck, no_gain, grow}
+use Rattle.choice.specs.Growth.{is_free, Grown, no_gain, grow}
 use Rattle.choice.specs.Choice.{FitsIn, cost_in}
 use Rattle.choice.specs.Offers.{offer_of, cheaper_of, Leads, IsBest}
 use Rattle.choice.specs.declared.search.Offer.{Offer}
@@ -18,12 +17,12 @@ use Rattle.choice.proofs.Best.{Makes, priced, turn}
 module _ {Header Rule Row : Type 0} (k : Meaning Header Rule Row) (lines : List (Line Row)) (room : ℕ) (judge : List ℕ → ℕ) where
   made : (bits : List ℕ) (n : ℕ) → Makes (FitsIn k lines room) (cost_in k lines judge) bits n (cond (is_free bits n) (offer_of k lines room judge (with_bit n bits)) None)
   made bits n = elim (cases_Bool (is_free bits n)) [
-        | inl free ↦ elim (cases_lt room (table_size k (rules_of k lines) (with_bit n bits))) [
-          | inl over ↦ rw (free, lt-ltb room (table_size k (rules_of k lines) (with_bit n bits)) over) (λ add. omega (arith, add.fits))
-          | inr fits ↦ rw (free, le-ltb room (table_size k (rules_of k lines) (with_bit n bits)) fits) (refl, refl, record { below = omega arith; free = free; fits = fits })
-        ]
-        | inr taken ↦ rw taken (λ add. grind (arith, nat_tests, add.free))
-      ]
+    | inl free ↦ elim (cases_lt room (table_size k (rules_of k lines) (with_bit n bits))) [
+      | inl over ↦ rw (free, lt-ltb room (table_size k (rules_of k lines) (with_bit n bits)) over) (λ add. omega (arith, add.fits))
+      | inr fits ↦ rw (free, le-ltb room (table_size k (rules_of k lines) (with_bit n bits)) fits) (refl, refl, record { below = omega arith; free = free; fits = fits })
+    ]
+    | inr taken ↦ rw taken (λ add. grind (arith, nat_tests, add.free))
+  ]
 
   pub best_turn : (bits : List ℕ) (n : ℕ) (best given next : Option Offer) → IsBest (FitsIn k lines room) (cost_in k lines judge) n bits best → given ≡ cond (is_free bits n) (offer_of k lines room judge (with_bit n bits)) None → next ≡ cheaper_of best given → IsBest (FitsIn k lines room) (cost_in k lines judge) (n + 1) bits next
   best_turn bits n best given next is e f = rw (f, e) (turn (FitsIn k lines room) (cost_in k lines judge) bits n best (cond (is_free bits n) (offer_of k lines room judge (with_bit n bits)) None) (made bits n) is)

@@ -5,3 +5,4 @@ pub mod Best
 pub mod Grows
 pub mod Tries
 pub mod Evolves
+pub mod Whole

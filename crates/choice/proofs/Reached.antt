@@ -1,17 +1,17 @@
 -- What is known of every set that a choice reaches, and of one that settled.
-use Rattle.std.proofs.Common.{◌≡◌, ℕ, ◌+◌, ◌-◌, ◌<◌, ◌≤◌, true, false, not, List, [], ◌∷◌, length, get_or, refl, sym, ap, ◌∙◌, subst, inl, inr, ⊎_elim, arith}
-use Rattle.std.proofs.lemmas.Bool.{cases_lt, cases_eq, cases_Bool, eq-eqb}
+use Rattle.std.proofs.Common.{◌≡◌, ℕ, ◌<◌, ◌≤◌, true, false, List, [], length, refl, ◌∙◌, inl, inr, ⊎_elim, arith}
+use Rattle.std.proofs.lemmas.Bool.{cases_lt, cases_eq}
 use Rattle.std.proofs.lemmas.Bool.Decides.{nat_tests}
 use Rattle.std.proofs.lemmas.List.{get_or_default}
-use Rattle.bits.specs.Sets.{rising, member, with_bit, without_bit}
+use Rattle.bits.specs.Sets.{member, with_bit, without_bit}
 use Rattle.bits.proofs.Facts.{length_with, length_without}
 use Rattle.bits.proofs.Members.{member_with, member_left, member_without}
 use Rattle.bits.proofs.Rising.{rising-with_bit, rising_without}
-use Rattle.choice.specs.Growth.{is_free, Addable, Best, Grown, full, stuck, no_gain, grow}
+use Rattle.choice.specs.Growth.{is_free, Addable, Grown, full, stuck, no_gain, grow}
 use Rattle.choice.specs.Evolution.{exchanged, exchanges, exchange_at, Evolved, settled, stopped, taken}
 use Rattle.choice.specs.Choice.{Chosen, Reached, Unbettered}
 use Rattle.choice.specs.declared.choice.Outcome.{Outcome}
-use Rattle.choice.specs.declared.choice.Outcome.TheVariants.{Settled, Stopped}
+use Rattle.choice.specs.declared.choice.Outcome.TheVariants.{Settled}
 use Rattle.choice.proofs.Exchanges.{all_exchanges, has_exchange}
 
 module _ (Fits : List ℕ → Type 0) (cost : List ℕ → ℕ) (width most : ℕ) where

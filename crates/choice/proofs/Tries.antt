@@ -1,13 +1,13 @@
 -- Going through the exchanges of a set: bit out by bit out, and for each bit in by bit in.
-use Rattle.std.proofs.Common.{◌≡◌, ℕ, zero, suc, ◌+◌, ◌-◌, ◌<◌, ◌≤◌, Bool, true, false, not, cond, ◌&&◌, List, [], ◌∷◌, ◌++◌, map, filter, length, Some, None, Option, refl, sym, ap, ◌∙◌, inl, inr, arith}
+use Rattle.std.proofs.Common.{◌≡◌, ℕ, suc, ◌+◌, ◌-◌, ◌<◌, ◌≤◌, Bool, true, false, cond, ◌&&◌, List, [], ◌∷◌, ◌++◌, map, filter, Some, None, Option, refl, sym, ap, ◌∙◌, arith}
 use Rattle.std.specs.List.{flat_map, range_with_len}
 use Rattle.std.specs.declared.ops.ControlFlow.{ControlFlow}
 use Rattle.std.specs.declared.ops.ControlFlow.TheVariants.{Continue, Break}
 use Rattle.std.proofs.lemmas.Bool.Decides.{nat_tests}
-use Rattle.bits.specs.Sets.{member, with_bit, without_bit}
+use Rattle.bits.specs.Sets.{member}
 use Rattle.bits.specs.Chosen.{joins}
 use Rattle.choice.specs.Growth.{is_free}
-use Rattle.choice.specs.Evolution.{unchosen, exchanged, exchanges}
+use Rattle.choice.specs.Evolution.{unchosen, exchanged}
 use Rattle.choice.specs.Tries.{going_on, try_of, tries_of}
 use Rattle.choice.specs.declared.search.Offer.{Offer}
 use Rattle.choice.specs.declared.evolve.Ended.{Ended}

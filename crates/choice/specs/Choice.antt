@@ -6,7 +6,7 @@
 --     Reached      what is known of every set that a choice reaches
 --     Unbettered   no exchange of a chosen bit for an unchosen one, whose table fits, costs less
 -- Assumes nothing.
-use Rattle.std.specs.Prelude.{◌≡◌, ℕ, ◌<◌, ◌≤◌, true, false, List, [], length, Option}
+use Rattle.std.specs.Prelude.{◌≡◌, ℕ, ◌<◌, ◌≤◌, true, false, List, [], length}
 use Rattle.bits.specs.Sets.{rising, member}
 use Rattle.kinds.specs.Meaning.{Meaning}
 use Rattle.kinds.specs.Lines.{rules_of}
@@ -14,7 +14,9 @@ use Rattle.kinds.specs.declared.line.Line.{Line}
 use Rattle.blocks.specs.Blocks.{sizes, Fits}
 use Rattle.choice.specs.Growth.{Grown}
 use Rattle.choice.specs.Evolution.{exchanged, Evolved}
+use Rattle.choice.specs.declared.choice.Choice.{Choice}
 use Rattle.choice.specs.declared.choice.Outcome.{Outcome}
+use Rattle.choice.specs.declared.limits.Limits.{Limits}
 
 module _ (width : ℕ) (Fits : List ℕ → Type 0) where
   pub record Reached (most : ℕ) (bits : List ℕ) : Type 0 where
@@ -38,3 +40,7 @@ module _ {Header Rule Row : Type 0} (k : Meaning Header Rule Row) (lines : List 
 
   abbrev pub cost_in : (List ℕ → ℕ) → List ℕ → ℕ
   cost_in judge bits = judge (sizes k (rules_of k lines) bits)
+
+  module _ (room : ℕ) (judge : List ℕ → ℕ) where
+    abbrev pub IsChoice : Limits → Choice → Type 0
+    IsChoice limits choice = Chosen k.width (FitsIn room) (cost_in judge) limits.most_bits limits.most_tries choice.bits choice.tries choice.outcome

@@ -23,7 +23,7 @@ pub(crate) enum Ended {
     Spent,
 }
 
-impl<R: Copy, J: Judge> Search<'_, R, J> {
+impl<R, J: Judge> Search<'_, R, J> {
     // Tries a set, where a try is left: takes it if it costs less, and else goes on with a try less.
     fn try_one<K: Kind<Row = R>>(
         &self,

@@ -12,7 +12,7 @@ use blocks::Tally;
 use judges::Judge;
 use kinds::Kind;
 
-impl<R: Copy, J: Judge> Search<'_, R, J> {
+impl<R, J: Judge> Search<'_, R, J> {
     // The set with one bit more, or none where that is in it or the table does not fit.
     fn offer_with<K: Kind<Row = R>>(
         &self,

@@ -2,8 +2,14 @@
 #![tactic(auto)]
 
 mod choice;
+mod choosing;
 mod evolve;
 mod grow;
+mod limits;
+mod refusal;
 mod search;
 
 pub use choice::{Choice, Outcome};
+pub use choosing::choose;
+pub use limits::Limits;
+pub use refusal::Refusal;

@@ -24,7 +24,7 @@ pub(crate) struct Offer {
     pub cost: u64,
 }
 
-impl<R: Copy, J: Judge> Search<'_, R, J> {
+impl<R, J: Judge> Search<'_, R, J> {
     // A set with its cost, or none where its table does not fit.
     pub(crate) fn offer<K: Kind<Row = R>>(&self, tally: &mut Tally, bits: Bits) -> Option<Offer>
         requires { 2 ^ length bits ≤ length tally.old.cells.now }

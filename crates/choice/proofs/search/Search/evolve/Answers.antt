@@ -1,5 +1,5 @@
-use Rattle.std.proofs.Common.{◌≡◌, ◌+◌, ◌-◌, ◌^◌, ◌<◌, ◌≤◌, length, ap, rules, arith}
-use Rattle.choice.proofs.Evolves.{TakenAt, as_used, settles, stops, few_left, takes, goes_on, length_next}
+use Rattle.std.proofs.Common.{◌+◌, ◌-◌, ◌^◌, ap, rules, arith}
+use Rattle.choice.proofs.Evolves.{as_used, settles, stops, few_left, takes, goes_on, length_next}
 use Rattle.choice.proofs.search.Search.evolve.Goals as goal
 
 pub loop-next-init : goal.loop-next-init

@@ -1,7 +1,6 @@
-use Rattle.std.proofs.Common.{◌≡◌, ◌<◌, length, ap, rules, arith}
+use Rattle.std.proofs.Common.{◌<◌, length, ap, rules, arith}
 use Rattle.bits.proofs.Facts.{length_with}
 use Rattle.choice.specs.Growth.{full, stuck}
-use Rattle.choice.specs.Choice.{FitsIn, cost_in}
 use Rattle.choice.proofs.Grows.{room_for_more, grows, gains_nothing}
 use Rattle.choice.proofs.search.Search.grow.Goals as goal
 

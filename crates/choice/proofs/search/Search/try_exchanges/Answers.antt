@@ -1,4 +1,4 @@
-use Rattle.std.proofs.Common.{rules, ◌∙◌, sym, arith, refl}
+use Rattle.std.proofs.Common.{rules, ◌∙◌, sym}
 use Rattle.choice.specs.Offers.{offer_of}
 use Rattle.choice.proofs.Tries.{member_later, rows_passed, rows_ended}
 use Rattle.choice.proofs.search.Search.try_exchanges.Goals as goal

@@ -17,11 +17,11 @@ loop-joining-preserved g c =
     let offer = offer_of g.K.Kind.meaning c.args.self.now.lines.now c.args.self.now.room (g.J.Judge.cost c.args.self.now.judge.now) in
     elim c.match-exchanged.branch [
       | in-Some+in_ok-left w ↦ record {
-          answer = c.loop-joining.invariant.answer ∙ row_passed offer c.args.present.now.cost c.args.present.now.bits c.args.out g.K.Kind.meaning.width c.requires.has c.loop-joining.joining (search rules) w.in-Some.bits c.loop-joining.left c.match-exchanged.left w.try_one.result w.in-Some.ensures.set w.try_one.ensures.answer (w.in_ok-left.was ∙ ap Continue (sym w.left-is));
-          kept = search rules;
-        }
+        answer = c.loop-joining.invariant.answer ∙ row_passed offer c.args.present.now.cost c.args.present.now.bits c.args.out g.K.Kind.meaning.width c.requires.has c.loop-joining.joining (search rules) w.in-Some.bits c.loop-joining.left c.match-exchanged.left w.try_one.result w.in-Some.ensures.set w.try_one.ensures.answer (w.in_ok-left.was ∙ ap Continue (sym w.left-is));
+        kept = search rules;
+      }
       | in_default w ↦ record {
-          answer = c.loop-joining.invariant.answer ∙ row_missed offer c.args.present.now.cost c.args.present.now.bits c.args.out g.K.Kind.meaning.width c.requires.has c.loop-joining.joining (search rules) c.loop-joining.left g.met.K.Kind.lawful.few_bits w.in_default.ensures.set ∙ ap (tries_of offer c.args.present.now.cost (row_from c.args.present.now.bits c.args.out g.K.Kind.meaning.width (c.loop-joining.joining + 1))) (sym w.left-is);
-          kept = search rules;
-        }
+        answer = c.loop-joining.invariant.answer ∙ row_missed offer c.args.present.now.cost c.args.present.now.bits c.args.out g.K.Kind.meaning.width c.requires.has c.loop-joining.joining (search rules) c.loop-joining.left g.met.K.Kind.lawful.few_bits w.in_default.ensures.set ∙ ap (tries_of offer c.args.present.now.cost (row_from c.args.present.now.bits c.args.out g.K.Kind.meaning.width (c.loop-joining.joining + 1))) (sym w.left-is);
+        kept = search rules;
+      }
     ]
