@@ -10,12 +10,14 @@ use Rattle.kinds.specs.Lines.{rules_of}
 use Rattle.kinds.specs.declared.line.Line.{Line}
 use Rattle.blocks.specs.Blocks.{table_size}
 use Rattle.choice.specs.Choice.{FitsIn, cost_in}
-use Rattle.choice.specs.Evolution.{exchanges, Evolved, settled, stopped, taken}
+use Rattle.choice.specs.Evolution.{exchanges, exchange_at, Evolved, settled, stopped, taken}
 use Rattle.choice.specs.Offers.{offer_of}
+use Rattle.choice.specs.Searches.{offer_in, Costed, Evolves}
 use Rattle.choice.specs.Tries.{going_on, after_try, tries_of}
 use Rattle.choice.specs.declared.choice.Outcome.{Outcome}
 use Rattle.choice.specs.declared.choice.Outcome.TheVariants.{Settled, Stopped}
 use Rattle.choice.specs.declared.search.Offer.{Offer}
+use Rattle.choice.specs.declared.search.Search.{Search}
 use Rattle.choice.specs.declared.evolve.Ended.{Ended}
 use Rattle.choice.specs.declared.evolve.Ended.TheVariants.{Taken, Spent}
 use Rattle.choice.proofs.Exchanges.{all_exchanges}
@@ -82,41 +84,53 @@ module _ {Header Rule Row : Type 0} (k : Meaning Header Rule Row) (lines : List 
     | inr some ↦ rw (ne_eqb left 0 some) (tried set sets left (omega arith) (ends sets))
   ]
 
+length_exchange : (width : ℕ) (bits : List ℕ) (place : ℕ) → place < length (exchanges width bits) → length (exchange_at width bits place) ≡ length bits
+length_exchange width bits place = all_exchanges width bits (λ set. length set ≡ length bits) (λ out b has below free. omega (arith, length_with b (without_bit out bits), length_without out bits has)) place []
+
 -- an equal count of tries
 pub as_used : {Fits : List ℕ → Type 0} {cost : List ℕ → ℕ} {width : ℕ} {bits : List ℕ} {left : ℕ} {end : List ℕ} {used : ℕ} {outcome : Outcome} (all : ℕ) → used ≡ all → Evolved Fits cost width bits left end used outcome → Evolved Fits cost width bits left end all outcome
 as_used {Fits} {cost} {width} {bits} {left} {end} {used} {outcome} all is more = subst (λ n. Evolved Fits cost width bits left end n outcome) is more
 
-module _ {Header Rule Row : Type 0} (k : Meaning Header Rule Row) (lines : List (Line Row)) (room : ℕ) (judge : List ℕ → ℕ) (width price : ℕ) (bits : List ℕ) (costed : price ≡ cost_in k lines judge bits) (left : ℕ) where
-  ended_by : (r : ControlFlow Ended ℕ) → r ≡ tries_of (offer_of k lines room judge) price (exchanges width bits) left → EndsBy k lines room judge price (exchanges width bits) left r
-  ended_by r is = rw is (ends k lines room judge price (exchanges width bits) left)
+-- all exchanges of a set with its cost were tried
+module _ {Header Rule Row Judge : Type 0} (k : Meaning Header Rule Row) (cost : Judge → List ℕ → ℕ) (search : Search Row Judge) (present : Offer) (priced : Costed k cost search present) (left : ℕ) where
+  abbrev went : ControlFlow Ended ℕ
+  went = tries_of (offer_in k cost search) present.cost (exchanges k.width present.bits) left
 
-  pub settles : (now : ℕ) → Continue now ≡ tries_of (offer_of k lines room judge) price (exchanges width bits) left → Evolved (FitsIn k lines room) (cost_in k lines judge) width bits left bits (left - now) Settled
-  settles now is =
-      let all = ended_by (Continue now) is in
-      let used : length (exchanges width bits) ≡ left - now = omega (arith, all.0) in
-      as_used (left - now) used
-      (settled (omega (arith, all.0)) (λ place lt better. all.1 place lt (better.0, omega (arith, better.1))))
+  abbrev Ended_by : ControlFlow Ended ℕ → Type 0
+  Ended_by = EndsBy k search.lines.now search.room (cost search.judge.now) present.cost (exchanges k.width present.bits) left
 
-  pub stops : Break Spent ≡ tries_of (offer_of k lines room judge) price (exchanges width bits) left → Evolved (FitsIn k lines room) (cost_in k lines judge) width bits left bits left Stopped
-  stops is = let all = ended_by (Break Spent) is in stopped all.0 (λ place lt better. all.1 place lt (better.0, omega (arith, better.1)))
+  ended_by : (r : ControlFlow Ended ℕ) → r ≡ went → Ended_by r
+  ended_by r is = rw is (ends k search.lines.now search.room (cost search.judge.now) present.cost (exchanges k.width present.bits) left)
 
-  pub few_left : (now : ℕ) → Continue now ≡ tries_of (offer_of k lines room judge) price (exchanges width bits) left → now ≤ left
+  pub few_left : (now : ℕ) → Continue now ≡ went → now ≤ left
   few_left now is = omega (arith, (ended_by (Continue now) is).0)
 
-  pub takes : (next : Offer) (now : ℕ) → Break (Taken next now) ≡ tries_of (offer_of k lines room judge) price (exchanges width bits) left → TakenAt k lines room judge price (exchanges width bits) left next now
-  takes next now is = ended_by (Break (Taken next now)) is
+  pub settles : (now : ℕ) → Continue now ≡ went → Evolves k cost search present.bits left present.bits (left - now) Settled
+  settles now is =
+      let all = ended_by (Continue now) is in
+      as_used (left - now) (omega (arith, all.0)) (settled (omega (arith, all.0)) (λ place lt better. all.1 place lt (better.0, omega (arith, better.1))))
 
-  module _ (next : Offer) (now : ℕ) (at : TakenAt k lines room judge price (exchanges width bits) left next now) where
-    pub length_next : length next.bits ≡ length bits
-    length_next =
-        ap length at.is
-        ∙ all_exchanges width bits (λ set. length set ≡ length bits) (λ out b has below free. omega (arith, length_with b (without_bit out bits), length_without out bits has)) at.place [] at.inside
+  pub stops : Break Spent ≡ went → Evolves k cost search present.bits left present.bits left Stopped
+  stops is = let all = ended_by (Break Spent) is in stopped all.0 (λ place lt better. all.1 place lt (better.0, omega (arith, better.1)))
 
-    pub goes_on : (end : List ℕ) (used : ℕ) (outcome : Outcome) → Evolved (FitsIn k lines room) (cost_in k lines judge) width next.bits now end used outcome → Evolved (FitsIn k lines room) (cost_in k lines judge) width bits left end (left - now + used) outcome
-    goes_on end used outcome more =
-        let rest : now ≡ left - (at.place + 1) = omega (arith, at.tries) in
-        let all : at.place + 1 + used ≡ left - now + used = omega (arith, at.tries) in
-        as_used (left - now + used) all
-        (taken at.place (omega (arith, at.tries)) at.inside (λ place lt better. at.before place lt (better.0, omega (arith, better.1))) (at.takes.0, omega (arith, at.takes.1))
-        (subst (λ set. Evolved (FitsIn k lines room) (cost_in k lines judge) width set (left - (at.place + 1)) end used outcome) at.is
-        (subst (λ n. Evolved (FitsIn k lines room) (cost_in k lines judge) width next.bits n end used outcome) rest more)))
+  -- one was taken: evolution goes on from it
+  pub record Turn (next : Offer) (now : ℕ) : Type 0 where
+    pub fewer : now < left
+    pub same : length next.bits ≡ length present.bits
+    pub costed : Costed k cost search next
+    pub evolves : (end : List ℕ) (used : ℕ) (outcome : Outcome) → Evolves k cost search next.bits now end used outcome → Evolves k cost search present.bits left end (left - now + used) outcome
+
+  pub takes : (next : Offer) (now : ℕ) → Break (Taken next now) ≡ went → Turn next now
+  takes next now is =
+      let at = ended_by (Break (Taken next now)) is in
+      let rest : now ≡ left - (at.place + 1) = omega (arith, at.tries) in
+      record {
+        fewer = omega (arith, at.tries);
+        same = ap length at.is ∙ length_exchange k.width present.bits at.place at.inside;
+        costed = at.costed;
+        evolves = λ end used outcome more.
+          as_used (left - now + used) (omega (arith, at.tries))
+          (taken at.place (omega (arith, at.tries)) at.inside (λ place lt better. at.before place lt (better.0, omega (arith, better.1))) (at.takes.0, omega (arith, at.takes.1))
+          (subst (λ set. Evolves k cost search set (left - (at.place + 1)) end used outcome) at.is
+          (subst (λ n. Evolves k cost search next.bits n end used outcome) rest more)));
+      }

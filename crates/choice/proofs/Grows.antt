@@ -1,5 +1,5 @@
 -- One turn of the search for the best bit, and of growth.
-use Rattle.std.proofs.Common.{◌≡◌, ℕ, ◌+◌, ◌^◌, ◌<◌, ◌≤◌, cond, List, length, None, Option, refl, subst, inl, inr, arith}
+use Rattle.std.proofs.Common.{◌≡◌, ℕ, ◌+◌, ◌^◌, ◌<◌, ◌≤◌, cond, List, length, Some, None, Option, refl, ap, subst, inl, inr, arith}
 use Rattle.std.proofs.Math.Pow.{pow_mono}
 use Rattle.std.proofs.lemmas.Bool.{cases_lt, cases_Bool, lt-ltb, le-ltb}
 use Rattle.std.proofs.lemmas.Bool.Decides.{nat_tests}
@@ -10,9 +10,11 @@ use Rattle.kinds.specs.declared.line.Line.{Line}
 use Rattle.blocks.specs.Blocks.{table_size}
 use Rattle.choice.specs.Growth.{is_free, Grown, no_gain, grow}
 use Rattle.choice.specs.Choice.{FitsIn, cost_in}
+use Rattle.choice.specs.Searches.{offer_in, Costed, BestBelow, BestOf, Grows}
 use Rattle.choice.specs.Offers.{offer_of, cheaper_of, Leads, IsBest}
 use Rattle.choice.specs.declared.search.Offer.{Offer}
-use Rattle.choice.proofs.Best.{Makes, priced, turn}
+use Rattle.choice.specs.declared.search.Search.{Search}
+use Rattle.choice.proofs.Best.{Makes, turn}
 
 module _ {Header Rule Row : Type 0} (k : Meaning Header Rule Row) (lines : List (Line Row)) (room : ℕ) (judge : List ℕ → ℕ) where
   made : (bits : List ℕ) (n : ℕ) → Makes (FitsIn k lines room) (cost_in k lines judge) bits n (cond (is_free bits n) (offer_of k lines room judge (with_bit n bits)) None)
@@ -24,15 +26,17 @@ module _ {Header Rule Row : Type 0} (k : Meaning Header Rule Row) (lines : List 
     | inr taken ↦ rw taken (λ add. grind (arith, nat_tests, add.free))
   ]
 
-  pub best_turn : (bits : List ℕ) (n : ℕ) (best given next : Option Offer) → IsBest (FitsIn k lines room) (cost_in k lines judge) n bits best → given ≡ cond (is_free bits n) (offer_of k lines room judge (with_bit n bits)) None → next ≡ cheaper_of best given → IsBest (FitsIn k lines room) (cost_in k lines judge) (n + 1) bits next
-  best_turn bits n best given next is e f = rw (f, e) (turn (FitsIn k lines room) (cost_in k lines judge) bits n best (cond (is_free bits n) (offer_of k lines room judge (with_bit n bits)) None) (made bits n) is)
+module _ {Header Rule Row Judge : Type 0} (k : Meaning Header Rule Row) (cost : Judge → List ℕ → ℕ) (search : Search Row Judge) where
+  pub best_turn : (bits : List ℕ) (n : ℕ) (best given next : Option Offer) → BestBelow k cost search n bits best → given ≡ cond (is_free bits n) (offer_in k cost search (with_bit n bits)) None → next ≡ cheaper_of best given → BestBelow k cost search (n + 1) bits next
+  best_turn bits n best given next is e f =
+      rw (f, e) (turn (FitsIn k search.lines.now search.room) (cost_in k search.lines.now (cost search.judge.now)) bits n best _ (made k search.lines.now search.room (cost search.judge.now) bits n) is)
 
-module _ (Fits : List ℕ → Type 0) (cost : List ℕ → ℕ) (width most : ℕ) (bits : List ℕ) (present : ℕ) (costed : present ≡ cost bits) (few : length bits < most) where
-  pub grows : (next : Offer) → Leads Fits cost width bits next → next.cost < present → (end : List ℕ) → Grown Fits cost width most next.bits end → Grown Fits cost width most bits end
-  grows next leads less end more = grow few leads.bit leads.best (omega (arith, priced Fits cost bits leads.bit next leads.set leads.costed)) (subst (λ set. Grown Fits cost width most set end) leads.set more)
+  module _ (most : ℕ) (present : Offer) (costed : Costed k cost search present) (few : length present.bits < most) where
+    pub grows : (next : Offer) → BestOf k cost search present.bits (Some next) → next.cost < present.cost → (end : List ℕ) → Grows k cost search most next.bits end → Grows k cost search most present.bits end
+    grows next leads less end more = grow few leads.bit leads.best (omega (arith, costed, leads.costed, ap (cost_in k search.lines.now (cost search.judge.now)) leads.set)) (subst (λ set. Grows k cost search most set end) leads.set more)
 
-  pub gains_nothing : (next : Offer) → Leads Fits cost width bits next → present ≤ next.cost → Grown Fits cost width most bits bits
-  gains_nothing next leads le = no_gain few leads.bit leads.best (omega (arith, priced Fits cost bits leads.bit next leads.set leads.costed))
+    pub gains_nothing : (next : Offer) → BestOf k cost search present.bits (Some next) → present.cost ≤ next.cost → Grows k cost search most present.bits present.bits
+    gains_nothing next leads le = no_gain few leads.bit leads.best (omega (arith, costed, leads.costed, ap (cost_in k search.lines.now (cost search.judge.now)) leads.set))
 
 pub room_for_more : (most n : ℕ) (bits : List ℕ) → length bits < most → 2 ^ most ≤ n → 2 ^ (length bits + 1) ≤ n
 room_for_more most n bits few room = let le : length bits + 1 ≤ most = omega arith in omega (arith, pow_mono le)

@@ -49,45 +49,36 @@ untaken : (set : List ℕ) (t : Bool) → None ≡ cond t (Some set) None → t 
 untaken set true is = absurd (grind (arith, nat_tests))
 untaken set false is = refl
 
--- a bit in that is tried
-module _ (offer : List ℕ → Option Offer) (cost : ℕ) (bits : List ℕ) (out width : ℕ) (chosen : member out bits ≡ true) (j : ℕ) (below : j < width) where
+-- what has been tried so far, and then goes on or ends
+pub went_on : (whole result : ControlFlow Ended ℕ) (next : ℕ → ControlFlow Ended ℕ) (now : ℕ) → whole ≡ going_on result next → result ≡ Continue now → whole ≡ next now
+went_on whole result next now is was = is ∙ rw was refl
+
+pub ended : (whole result told : ControlFlow Ended ℕ) (next : ℕ → ControlFlow Ended ℕ) (early : Ended) → whole ≡ going_on result next → result ≡ Break early → told ≡ Break early → told ≡ whole
+ended whole result told next early is was tells = tells ∙ sym (is ∙ rw was refl)
+
+-- bit in by bit in: from a bit on
+module _ (offer : List ℕ → Option Offer) (cost : ℕ) (bits : List ℕ) (out width : ℕ) (chosen : member out bits ≡ true) (j : ℕ) (below : j < width) (whole : ControlFlow Ended ℕ) (left : ℕ) (so_far : whole ≡ tries_of offer cost (row_from bits out width j) left) where
   exchanged_is : (set : List ℕ) (t : Bool) → Some set ≡ cond t (Some (exchanged bits out j)) None → (set ≡ exchanged bits out j) × (t ≡ true)
   exchanged_is set true is = (cc, refl)
   exchanged_is set false is = absurd (grind (arith, nat_tests))
 
-  -- one that joins, after its try
-  row_tried : (set : List ℕ) (left : ℕ) → Some set ≡ cond (member out bits && joins j bits) (Some (exchanged bits out j)) None → tries_of offer cost (row_from bits out width j) left ≡ going_on (try_of offer cost set left) (λ now. tries_of offer cost (row_from bits out width (j + 1)) now)
-  row_tried set left is =
+  -- it joins, and is tried
+  pub row_tried : (set : List ℕ) (result : ControlFlow Ended ℕ) → Some set ≡ cond (member out bits && joins j bits) (Some (exchanged bits out j)) None → result ≡ try_of offer cost set left → whole ≡ going_on result (λ now. tries_of offer cost (row_from bits out width (j + 1)) now)
+  row_tried set result is told =
       let both = exchanged_is set (member out bits && joins j bits) is in
       let free : is_free bits j ≡ true = joins_free j bits (grind (arith, nat_tests, both.1)) in
-      rw (both.0, row_step bits out width j below free) refl
+      so_far ∙ rw (told, both.0, row_step bits out width j below free) refl
 
-  pub row_passed : (set : List ℕ) (left now : ℕ) (result : ControlFlow Ended ℕ) → Some set ≡ cond (member out bits && joins j bits) (Some (exchanged bits out j)) None → result ≡ try_of offer cost set left → result ≡ Continue now → tries_of offer cost (row_from bits out width j) left ≡ tries_of offer cost (row_from bits out width (j + 1)) now
-  row_passed set left now result is told was = row_tried set left is ∙ rw (sym told ∙ was) refl
-
-  pub row_ended : (set : List ℕ) (left : ℕ) (ended : Ended) (result : ControlFlow Ended ℕ) → Some set ≡ cond (member out bits && joins j bits) (Some (exchanged bits out j)) None → result ≡ try_of offer cost set left → result ≡ Break ended → tries_of offer cost (row_from bits out width j) left ≡ Break ended
-  row_ended set left ended result is told was = row_tried set left is ∙ rw (sym told ∙ was) refl
-
-  -- one that is chosen
-  pub row_missed : (left : ℕ) → width ≤ 1024 → None ≡ cond (member out bits && joins j bits) (Some (exchanged bits out j)) None → tries_of offer cost (row_from bits out width j) left ≡ tries_of offer cost (row_from bits out width (j + 1)) left
-  row_missed left few is =
+  -- it is chosen
+  pub row_missed : width ≤ 1024 → None ≡ cond (member out bits && joins j bits) (Some (exchanged bits out j)) None → whole ≡ tries_of offer cost (row_from bits out width (j + 1)) left
+  row_missed few is =
       let missed = untaken (exchanged bits out j) (member out bits && joins j bits) is in
       let free : is_free bits j ≡ false = not_free j bits (omega arith) (grind (arith, nat_tests)) in
-      rw (row_skip bits out width j below free) refl
+      so_far ∙ rw (row_skip bits out width j below free) refl
+
+-- bit out by bit out
+pub rows_tried : (offer : List ℕ → Option Offer) (cost : ℕ) (bits : List ℕ) (width : ℕ) (outs rest : List ℕ) (out left : ℕ) (whole result : ControlFlow Ended ℕ) → outs ≡ out ∷ rest → whole ≡ tries_of offer cost (rows_of bits width outs) left → result ≡ tries_of offer cost (map (exchanged bits out) (unchosen width bits)) left → whole ≡ going_on result (λ now. tries_of offer cost (rows_of bits width rest) now)
+rows_tried offer cost bits width outs rest out left whole result is so_far told = so_far ∙ rw (is, told) (tries_of-append offer cost (map (exchanged bits out) (unchosen width bits)) (rows_of bits width rest) left)
 
 pub member_later : (b : ℕ) (outs rest : List ℕ) (out : ℕ) → outs ≡ out ∷ rest → member b rest ≡ true → member b outs ≡ true
 member_later b outs rest out is has = rw is (grind (arith, nat_tests))
-
--- bit out by bit out
-module _ (offer : List ℕ → Option Offer) (cost : ℕ) (bits : List ℕ) (width : ℕ) where
-  abbrev row : ℕ → List (List ℕ)
-  row out = map (exchanged bits out) (unchosen width bits)
-
-  rows_tried : (outs rest : List ℕ) (out left : ℕ) → outs ≡ out ∷ rest → tries_of offer cost (rows_of bits width outs) left ≡ going_on (tries_of offer cost (row out) left) (λ now. tries_of offer cost (rows_of bits width rest) now)
-  rows_tried outs rest out left is = rw is (tries_of-append offer cost (row out) (rows_of bits width rest) left)
-
-  pub rows_passed : (outs rest : List ℕ) (out left now : ℕ) (result : ControlFlow Ended ℕ) → outs ≡ out ∷ rest → result ≡ tries_of offer cost (row out) left → result ≡ Continue now → tries_of offer cost (rows_of bits width outs) left ≡ tries_of offer cost (rows_of bits width rest) now
-  rows_passed outs rest out left now result is told was = rows_tried outs rest out left is ∙ rw (sym told ∙ was) refl
-
-  pub rows_ended : (outs rest : List ℕ) (out left : ℕ) (ended : Ended) (result : ControlFlow Ended ℕ) → outs ≡ out ∷ rest → result ≡ tries_of offer cost (row out) left → result ≡ Break ended → tries_of offer cost (rows_of bits width outs) left ≡ Break ended
-  rows_ended outs rest out left ended result is told was = rows_tried outs rest out left is ∙ rw (sym told ∙ was) refl

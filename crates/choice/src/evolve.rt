@@ -2,9 +2,8 @@
 ghost use Rattle.std.specs.Prelude.{◌≡◌, ◌^◌, ◌≤◌, true, length, map};
 ghost use Rattle.bits.specs.Sets.{member};
 ghost use Rattle.blocks.specs.Tallies.{SameCells};
-ghost use Rattle.choice.specs.Choice.{FitsIn, cost_in};
-ghost use Rattle.choice.specs.Evolution.{unchosen, exchanged, exchanges, Evolved};
-ghost use Rattle.choice.specs.Offers.{offer_of};
+ghost use Rattle.choice.specs.Evolution.{unchosen, exchanged, exchanges};
+ghost use Rattle.choice.specs.Searches.{offer_in, Costed, Evolves};
 ghost use Rattle.choice.specs.Tries.{try_of, tries_of};
 
 use super::choice::{Choice, Outcome};
@@ -33,7 +32,7 @@ impl<R, J: Judge> Search<'_, R, J> {
         left: u32,
     ) -> ControlFlow<Ended, u32>
         requires { 2 ^ length bits ≤ length tally.old.cells.now }
-        ensures answer { result ≡ try_of (offer_of K.meaning self.now.lines.now self.now.room (J.cost self.now.judge.now)) cost bits left }
+        ensures answer { result ≡ try_of (offer_in K.meaning J.cost self.now) cost bits left }
         ensures kept { SameCells tally.old tally.new }
     {
         if left == 0 {
@@ -55,7 +54,7 @@ impl<R, J: Judge> Search<'_, R, J> {
     ) -> ControlFlow<Ended, u32>
         requires has { member out present.now.bits ≡ true }
         requires room { 2 ^ length present.now.bits ≤ length tally.old.cells.now }
-        ensures answer { result ≡ tries_of (offer_of K.meaning self.now.lines.now self.now.room (J.cost self.now.judge.now)) present.now.cost (map (exchanged present.now.bits out) (unchosen K.meaning.width present.now.bits)) tries }
+        ensures answer { result ≡ tries_of (offer_in K.meaning J.cost self.now) present.now.cost (map (exchanged present.now.bits out) (unchosen K.meaning.width present.now.bits)) tries }
         ensures kept { SameCells tally.old tally.new }
     {
         let mut left = tries;
@@ -75,7 +74,7 @@ impl<R, J: Judge> Search<'_, R, J> {
         tries: u32,
     ) -> ControlFlow<Ended, u32>
         requires { 2 ^ length present.now.bits ≤ length tally.old.cells.now }
-        ensures answer { result ≡ tries_of (offer_of K.meaning self.now.lines.now self.now.room (J.cost self.now.judge.now)) present.now.cost (exchanges K.meaning.width present.now.bits) tries }
+        ensures answer { result ≡ tries_of (offer_in K.meaning J.cost self.now) present.now.cost (exchanges K.meaning.width present.now.bits) tries }
         ensures kept { SameCells tally.old tally.new }
     {
         let mut left = tries;
@@ -93,8 +92,8 @@ impl<R, J: Judge> Search<'_, R, J> {
         tries: u32,
     ) -> Choice
         requires room { 2 ^ length start.bits ≤ length tally.old.cells.now }
-        requires costed { start.cost ≡ cost_in K.meaning self.now.lines.now (J.cost self.now.judge.now) start.bits }
-        ensures evolved { Evolved (FitsIn K.meaning self.now.lines.now self.now.room) (cost_in K.meaning self.now.lines.now (J.cost self.now.judge.now)) K.meaning.width start.bits tries result.bits result.tries result.outcome }
+        requires costed { Costed K.meaning J.cost self.now start }
+        ensures evolved { Evolves K.meaning J.cost self.now start.bits tries result.bits result.tries result.outcome }
         ensures kept { SameCells tally.old tally.new }
     {
         let mut present = start;

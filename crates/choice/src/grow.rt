@@ -2,9 +2,8 @@
 ghost use Rattle.std.specs.Prelude.{◌≡◌, ◌+◌, ◌^◌, ◌<◌, ◌≤◌, length, None, if◌then◌else◌};
 ghost use Rattle.bits.specs.Sets.{with_bit};
 ghost use Rattle.blocks.specs.Tallies.{SameCells};
-ghost use Rattle.choice.specs.Growth.{is_free, Grown};
-ghost use Rattle.choice.specs.Choice.{FitsIn, cost_in};
-ghost use Rattle.choice.specs.Offers.{offer_of, IsBest};
+ghost use Rattle.choice.specs.Growth.{is_free};
+ghost use Rattle.choice.specs.Searches.{offer_in, Costed, BestOf, Grows};
 
 use super::search::{Offer, Search};
 use bits::Bits;
@@ -23,7 +22,7 @@ impl<R, J: Judge> Search<'_, R, J> {
         requires below { bit < 1024 }
         requires few { length bits.now < 12 }
         requires room { 2 ^ (length bits.now + 1) ≤ length tally.old.cells.now }
-        ensures answer { result ≡ (if is_free bits.now bit then offer_of K.meaning self.now.lines.now self.now.room (J.cost self.now.judge.now) (with_bit bit bits.now) else None) }
+        ensures answer { result ≡ (if is_free bits.now bit then offer_in K.meaning J.cost self.now (with_bit bit bits.now) else None) }
         ensures kept { SameCells tally.old tally.new }
     {
         self.offer::<K>(tally, bits.with(bit)?)
@@ -33,7 +32,7 @@ impl<R, J: Judge> Search<'_, R, J> {
     fn best<K: Kind<Row = R>>(&self, tally: &mut Tally, bits: &Bits) -> Option<Offer>
         requires few { length bits.now < 12 }
         requires room { 2 ^ (length bits.now + 1) ≤ length tally.old.cells.now }
-        ensures answer { IsBest (FitsIn K.meaning self.now.lines.now self.now.room) (cost_in K.meaning self.now.lines.now (J.cost self.now.judge.now)) K.meaning.width bits.now result }
+        ensures answer { BestOf K.meaning J.cost self.now bits.now result }
         ensures kept { SameCells tally.old tally.new }
     {
         let mut best: Option<Offer> = None;
@@ -52,9 +51,9 @@ impl<R, J: Judge> Search<'_, R, J> {
     ) -> Offer
         requires few { most ≤ 12 }
         requires room { 2 ^ most ≤ length tally.old.cells.now }
-        requires costed { start.cost ≡ cost_in K.meaning self.now.lines.now (J.cost self.now.judge.now) start.bits }
-        ensures grown { Grown (FitsIn K.meaning self.now.lines.now self.now.room) (cost_in K.meaning self.now.lines.now (J.cost self.now.judge.now)) K.meaning.width most start.bits result.bits }
-        ensures costed { result.cost ≡ cost_in K.meaning self.now.lines.now (J.cost self.now.judge.now) result.bits }
+        requires costed { Costed K.meaning J.cost self.now start }
+        ensures grown { Grows K.meaning J.cost self.now most start.bits result.bits }
+        ensures costed { Costed K.meaning J.cost self.now result }
         ensures kept { SameCells tally.old tally.new }
     {
         let mut present = start;

@@ -1,7 +1,7 @@
 // What a choice is made from, and what one set of bits costs there.
 ghost use Rattle.std.specs.Prelude.{◌≡◌, ◌^◌, ◌≤◌, length};
 ghost use Rattle.blocks.specs.Tallies.{SameCells};
-ghost use Rattle.choice.specs.Offers.{offer_of, cheaper_of};
+ghost use Rattle.choice.specs.Offers.{cheaper_of};
 
 use bits::Bits;
 use blocks::Tally;
@@ -25,10 +25,12 @@ pub(crate) struct Offer {
 }
 
 impl<R, J: Judge> Search<'_, R, J> {
+    ghost use Rattle.choice.specs.Searches.{offer_in};
+
     // A set with its cost, or none where its table does not fit.
     pub(crate) fn offer<K: Kind<Row = R>>(&self, tally: &mut Tally, bits: Bits) -> Option<Offer>
         requires { 2 ^ length bits ≤ length tally.old.cells.now }
-        ensures answer { result ≡ offer_of K.meaning self.now.lines.now self.now.room (J.cost self.now.judge.now) bits }
+        ensures answer { result ≡ offer_in K.meaning J.cost self.now bits }
         ensures kept { SameCells tally.old tally.new }
     {
         let cost = tally

@@ -1,4 +1,4 @@
-use Rattle.std.proofs.Common.{◌<◌, length, ap, rules, arith}
+use Rattle.std.proofs.Common.{rules, ◌<◌, length, ap, arith}
 use Rattle.bits.proofs.Facts.{length_with}
 use Rattle.choice.specs.Growth.{full, stuck}
 use Rattle.choice.proofs.Grows.{room_for_more, grows, gains_nothing}
@@ -19,7 +19,7 @@ loop-tally-preserved g c =
     let few : length c.loop-tally.present.bits < c.args.most = omega (arith, c.len.ensures.answer) in
     let leads = c.in-Some.ensures.answer in
     record {
-      grown = λ end more. c.loop-tally.invariant.grown end (grows _ _ _ _ c.loop-tally.present.bits c.loop-tally.present.cost c.loop-tally.invariant.costed few c.in-Some.next leads c.if-next-present.true end more);
+      grown = λ end more. c.loop-tally.invariant.grown end (grows g.K.Kind.meaning g.J.Judge.cost c.args.self.now c.args.most c.loop-tally.present c.loop-tally.invariant.costed few c.in-Some.next leads (search rules) end more);
       costed = leads.costed;
       kept = search rules;
     }
@@ -30,7 +30,7 @@ returns-after-loop-tally-clause-grown g c = c.loop-tally.invariant.grown c.loop-
 pub returns-in_default-clause-grown : goal.returns-in_default-clause-grown
 returns-in_default-clause-grown g c =
     let few : length c.loop-tally.present.bits < c.args.most = omega (arith, c.len.ensures.answer) in
-    c.loop-tally.invariant.grown c.loop-tally.present.bits (gains_nothing _ _ _ _ c.loop-tally.present.bits c.loop-tally.present.cost c.loop-tally.invariant.costed few c.in-Some.next c.in-Some.ensures.answer c.if-next-present.false)
+    c.loop-tally.invariant.grown c.loop-tally.present.bits (gains_nothing g.K.Kind.meaning g.J.Judge.cost c.args.self.now c.args.most c.loop-tally.present c.loop-tally.invariant.costed few c.in-Some.next c.in-Some.ensures.answer (search rules))
 
 pub returns-in_default-2-clause-grown : goal.returns-in_default-2-clause-grown
 returns-in_default-2-clause-grown g c =
