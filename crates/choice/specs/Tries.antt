@@ -2,10 +2,13 @@
 --     after_try   after a try: a cheaper set is taken, else it goes on
 --     try_of      one try, where one is left
 --     tries_of    tries of these sets, one by one
--- Assumes nothing.
+--     exchange_try   the try of an exchange, if the bit in is not chosen
+-- No public contract names these words. Assumes nothing.
 use Rattle.std.specs.Prelude.{ℕ, ◌-◌, ◌==◌, List, [], ◌∷◌, Some, None, Option, if◌then◌else◌, nat_lt}
 use Rattle.std.specs.declared.ops.ControlFlow.{ControlFlow}
 use Rattle.std.specs.declared.ops.ControlFlow.TheVariants.{Continue, Break}
+use Rattle.choice.specs.Growth.{is_free}
+use Rattle.choice.specs.Evolution.{exchanged}
 use Rattle.choice.specs.declared.search.Offer.{Offer}
 use Rattle.choice.specs.declared.evolve.Ended.{Ended}
 use Rattle.choice.specs.declared.evolve.Ended.TheVariants.{Taken, Spent}
@@ -26,3 +29,6 @@ module _ (offer : List ℕ → Option Offer) (cost : ℕ) where
   abbrev pub tries_of : List (List ℕ) → ℕ → ControlFlow Ended ℕ
   tries_of [] left = Continue left
   tries_of (bits ∷ sets) left = going_on (try_of bits left) (λ now. tries_of sets now)
+
+  abbrev pub exchange_try : List ℕ → ℕ → ℕ → ℕ → ControlFlow Ended ℕ
+  exchange_try bits out b left = if is_free bits b then try_of (exchanged bits out b) left else Continue left

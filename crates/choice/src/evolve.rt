@@ -1,10 +1,10 @@
 // Intelli-Evolution: a chosen bit is exchanged for another, one at a time, while that gains.
-ghost use Rattle.std.specs.Prelude.{◌≡◌, ◌^◌, ◌≤◌, true, length, map};
+ghost use Rattle.std.specs.Prelude.{◌≡◌, ◌^◌, ◌<◌, ◌≤◌, true, length, map};
 ghost use Rattle.bits.specs.Sets.{member};
 ghost use Rattle.blocks.specs.Tallies.{SameCells};
 ghost use Rattle.choice.specs.Evolution.{unchosen, exchanged, exchanges};
 ghost use Rattle.choice.specs.Searches.{offer_in, Costed, Evolves};
-ghost use Rattle.choice.specs.Tries.{try_of, tries_of};
+ghost use Rattle.choice.specs.Tries.{try_of, exchange_try, tries_of};
 
 use super::choice::{Choice, Outcome};
 use super::search::{Offer, Search};
@@ -44,7 +44,29 @@ impl<R, J: Judge> Search<'_, R, J> {
         }
     }
 
-    // Tries the sets with one bit out, and each unchosen bit in, rising.
+    // Tries one exchange, unless the bit in is chosen.
+    fn try_exchange<K: Kind<Row = R>>(
+        &self,
+        tally: &mut Tally,
+        present: &Offer,
+        out: usize,
+        joining: usize,
+        left: u32,
+    ) -> ControlFlow<Ended, u32>
+        requires has { member out present.now.bits ≡ true }
+        requires below { joining < 1024 }
+        requires room { 2 ^ length present.now.bits ≤ length tally.old.cells.now }
+        ensures answer { result ≡ exchange_try (offer_in K.meaning J.cost self.now) present.now.cost present.now.bits out joining left }
+        ensures kept { SameCells tally.old tally.new }
+    {
+        match present.bits.exchanged(out, joining) {
+            Some(bits) => self.try_one::<K>(tally, present.cost, bits, left),
+            None => ControlFlow::Continue(left),
+        }
+    }
+
+    // Tries the exchanges of one bit out: the bit in rising.
+    #[tactic(auto, using(crate::proofs::Tries::row_try))]
     fn try_without<K: Kind<Row = R>>(
         &self,
         tally: &mut Tally,
@@ -59,14 +81,13 @@ impl<R, J: Judge> Search<'_, R, J> {
     {
         let mut left = tries;
         for joining in 0..K::width() {
-            if let Some(bits) = present.bits.exchanged(out, joining) {
-                left = self.try_one::<K>(tally, present.cost, bits, left)?;
-            }
+            left = self.try_exchange::<K>(tally, present, out, joining, left)?;
         }
         ControlFlow::Continue(left)
     }
 
     // Tries all exchanges: the bit out rising, and for each the bit in, rising.
+    #[tactic(auto, using(crate::proofs::Tries::rows_try, crate::proofs::Tries::member_later))]
     fn try_exchanges<K: Kind<Row = R>>(
         &self,
         tally: &mut Tally,
