@@ -3,12 +3,13 @@ use Rattle.std.proofs.Common.{◌≡◌, ℕ, ◌+◌, ◌^◌, ◌<◌, ◌≤�
 use Rattle.std.proofs.Math.Pow.{pow_mono}
 use Rattle.std.proofs.lemmas.Bool.{cases_lt, cases_Bool, lt-ltb, le-ltb}
 use Rattle.std.proofs.lemmas.Bool.Decides.{nat_tests}
+use Rattle.bits.proofs.Facts.{length_with}
 use Rattle.bits.specs.Sets.{with_bit}
 use Rattle.kinds.specs.Meaning.{Meaning}
 use Rattle.kinds.specs.Lines.{rules_of}
 use Rattle.kinds.specs.declared.line.Line.{Line}
 use Rattle.blocks.specs.Blocks.{table_size}
-use Rattle.choice.specs.Growth.{is_free, Grown, no_gain, grow}
+use Rattle.choice.specs.Growth.{is_free, Grown, full, stuck, no_gain, grow}
 use Rattle.choice.specs.Choice.{FitsIn, cost_in}
 use Rattle.choice.specs.Searches.{offer_in, Costed, BestBelow, BestOf, Grows}
 use Rattle.choice.specs.Offers.{offer_of, cheaper_of, Leads, IsBest}
@@ -37,6 +38,18 @@ module _ {Header Rule Row Judge : Type 0} (k : Meaning Header Rule Row) (cost : 
 
     pub gains_nothing : (next : Offer) → BestOf k cost search present.bits (Some next) → present.cost ≤ next.cost → Grows k cost search most present.bits present.bits
     gains_nothing next leads le = no_gain few leads.bit leads.best (omega (arith, costed, leads.costed, ap (cost_in k search.lines.now (cost search.judge.now)) leads.set))
+
+    pub stays_stuck : BestOf k cost search present.bits None → Grows k cost search most present.bits present.bits
+    stays_stuck none = stuck few none
+
+  pub stays_full : (most : ℕ) (bits : List ℕ) → most ≤ length bits → Grows k cost search most bits bits
+  stays_full most bits le = full le
+
+  pub longer : (bits : List ℕ) (next : Offer) → BestOf k cost search bits (Some next) → length next.bits ≡ length bits + 1
+  longer bits next leads = omega (arith, ap length leads.set, length_with leads.bit bits)
+
+  pub costed_too : (bits : List ℕ) (next : Offer) → BestOf k cost search bits (Some next) → Costed k cost search next
+  costed_too bits next leads = leads.costed
 
 pub room_for_more : (most n : ℕ) (bits : List ℕ) → length bits < most → 2 ^ most ≤ n → 2 ^ (length bits + 1) ≤ n
 room_for_more most n bits few room = let le : length bits + 1 ≤ most = omega arith in omega (arith, pow_mono le)

@@ -29,6 +29,7 @@ impl<R, J: Judge> Search<'_, R, J> {
     }
 
     // The set with the best bit more, or none where no bit may be added.
+    #[tactic(auto, using(crate::proofs::Grows::best_turn))]
     fn best<K: Kind<Row = R>>(&self, tally: &mut Tally, bits: &Bits) -> Option<Offer>
         requires few { length bits.now < 12 }
         requires room { 2 ^ (length bits.now + 1) ≤ length tally.old.cells.now }
@@ -43,6 +44,7 @@ impl<R, J: Judge> Search<'_, R, J> {
     }
 
     // The set at which growth from a set ends, at most so many bits.
+    #[tactic(auto, using(crate::proofs::Grows::grows, crate::proofs::Grows::gains_nothing, crate::proofs::Grows::stays_full, crate::proofs::Grows::stays_stuck, crate::proofs::Grows::longer, crate::proofs::Grows::costed_too))]
     pub(crate) fn grow<K: Kind<Row = R>>(
         &self,
         tally: &mut Tally,
