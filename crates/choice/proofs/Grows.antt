@@ -9,10 +9,10 @@ use Rattle.kinds.specs.Meaning.{Meaning}
 use Rattle.kinds.specs.Lines.{rules_of}
 use Rattle.kinds.specs.declared.line.Line.{Line}
 use Rattle.blocks.specs.Blocks.{table_size}
-use Rattle.choice.specs.Growth.{is_free, Grown, full, stuck, no_gain, grow}
+use Rattle.choice.specs.Growth.{is_free, full, stuck, no_gain, grow}
 use Rattle.choice.specs.Choice.{FitsIn, cost_in}
 use Rattle.choice.specs.Searches.{offer_in, Costed, BestBelow, BestOf, Grows}
-use Rattle.choice.specs.Offers.{offer_of, cheaper_of, Leads, IsBest}
+use Rattle.choice.specs.Offers.{offer_of, cheaper_of}
 use Rattle.choice.specs.declared.search.Offer.{Offer}
 use Rattle.choice.specs.declared.search.Search.{Search}
 use Rattle.choice.proofs.Best.{Makes, turn}

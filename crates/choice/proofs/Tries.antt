@@ -1,12 +1,11 @@
 -- Going through the exchanges of a set: bit out by bit out, and for each bit in by bit in.
-use Rattle.std.proofs.Common.{inl, inr, ◌≡◌, ℕ, suc, ◌+◌, ◌-◌, ◌<◌, ◌≤◌, Bool, true, false, cond, ◌&&◌, List, [], ◌∷◌, ◌++◌, map, filter, Some, None, Option, refl, sym, ap, ◌∙◌, arith}
+use Rattle.std.proofs.Common.{inl, inr, ◌≡◌, ℕ, suc, ◌+◌, ◌-◌, ◌<◌, true, false, List, [], ◌∷◌, ◌++◌, map, filter, Option, refl, ap, ◌∙◌, arith}
 use Rattle.std.specs.List.{flat_map, range_with_len}
 use Rattle.std.specs.declared.ops.ControlFlow.{ControlFlow}
 use Rattle.std.specs.declared.ops.ControlFlow.TheVariants.{Continue, Break}
 use Rattle.std.proofs.lemmas.Bool.{cases_Bool}
 use Rattle.std.proofs.lemmas.Bool.Decides.{nat_tests}
 use Rattle.bits.specs.Sets.{member}
-use Rattle.bits.specs.Chosen.{joins}
 use Rattle.choice.specs.Growth.{is_free}
 use Rattle.choice.specs.Evolution.{unchosen, exchanged}
 use Rattle.choice.specs.Tries.{going_on, try_of, tries_of, exchange_try}
@@ -43,9 +42,9 @@ module _ (offer : List ℕ → Option Offer) (cost : ℕ) where
 -- bit in by bit in
 pub row_try : (offer : List ℕ → Option Offer) (cost : ℕ) (bits : List ℕ) (out width j left : ℕ) → j < width → tries_of offer cost (row_from bits out width j) left ≡ going_on (exchange_try offer cost bits out j left) (λ now. tries_of offer cost (row_from bits out width (j + 1)) now)
 row_try offer cost bits out width j left below = elim (cases_Bool (is_free bits j)) [
-      | inl free ↦ rw (row_step bits out width j below free, free) refl
-      | inr chosen ↦ rw (row_skip bits out width j below chosen, chosen) refl
-    ]
+  | inl free ↦ rw (row_step bits out width j below free, free) refl
+  | inr chosen ↦ rw (row_skip bits out width j below chosen, chosen) refl
+]
 
 -- bit out by bit out
 pub rows_try : (offer : List ℕ → Option Offer) (cost : ℕ) (bits : List ℕ) (width out left : ℕ) (rest : List ℕ) → tries_of offer cost (rows_of bits width (out ∷ rest)) left ≡ going_on (tries_of offer cost (map (exchanged bits out) (unchosen width bits)) left) (λ now. tries_of offer cost (rows_of bits width rest) now)

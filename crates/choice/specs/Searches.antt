@@ -5,8 +5,9 @@
 --     BestOf     the same of all bits of a header
 --     Grows      growth from a set ends at another
 --     Evolves    evolution from a set, with so many tries, ends at another, after so many tries, settled or stopped
+--     OnTheWay   a set that evolution has come to, with so many tries left
 -- Assumes nothing.
-use Rattle.std.specs.Prelude.{◌≡◌, ℕ, List, Option}
+use Rattle.std.specs.Prelude.{◌≡◌, ℕ, ◌+◌, ◌≤◌, List, Option}
 use Rattle.kinds.specs.Meaning.{Meaning}
 use Rattle.choice.specs.Growth.{Grown}
 use Rattle.choice.specs.Evolution.{Evolved}
@@ -34,3 +35,8 @@ module _ {Header Rule Row Judge : Type 0} (k : Meaning Header Rule Row) (cost : 
 
   abbrev pub Evolves : List ℕ → ℕ → List ℕ → ℕ → Outcome → Type 0
   Evolves = Evolved (FitsIn k search.lines.now search.room) (cost_in k search.lines.now (cost search.judge.now)) k.width
+
+  -- what evolution from a set ends with, evolution from the start ends with, after the tries on the way too
+  pub record OnTheWay (start : List ℕ) (tries : ℕ) (bits : List ℕ) (left : ℕ) : Type 0 where
+    pub few : left ≤ tries
+    pub ends : (end : List ℕ) (used all : ℕ) (outcome : Outcome) → all + left ≡ tries + used → Evolves bits left end used outcome → Evolves start tries end all outcome

@@ -106,6 +106,7 @@ impl<R, J: Judge> Search<'_, R, J> {
     }
 
     // The choice that evolution from a set ends with, after so many tries at most.
+    #[tactic(auto, using(crate::proofs::Evolves::way_starts, crate::proofs::Evolves::settles, crate::proofs::Evolves::stops))]
     pub(crate) fn evolve<K: Kind<Row = R>>(
         &self,
         tally: &mut Tally,

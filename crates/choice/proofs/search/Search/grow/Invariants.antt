@@ -1,4 +1,4 @@
-use Rattle.std.proofs.Common.{◌≡◌, ℕ, ◌-◌, List, length}
+use Rattle.std.proofs.Common.{ℕ, ◌-◌, List, length}
 use Rattle.blocks.specs.Tallies.{SameCells}
 use Rattle.choice.specs.Searches.{Costed, Grows}
 use Rattle.choice.proofs.search.Search.grow.Given as goal
