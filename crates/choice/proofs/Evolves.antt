@@ -1,5 +1,5 @@
 -- How going through all exchanges ends, and what follows for the evolution.
-use Rattle.std.proofs.Common.{◌≡◌, ℕ, zero, suc, ◌+◌, ◌-◌, ◌<◌, ◌≤◌, List, [], ◌∷◌, length, get_or, refl, ap, ◌∙◌, subst, inl, inr, arith}
+use Rattle.std.proofs.Common.{Option, ◌≡◌, ℕ, zero, suc, ◌+◌, ◌-◌, ◌<◌, ◌≤◌, List, [], ◌∷◌, length, get_or, refl, ap, ◌∙◌, subst, inl, inr, arith}
 use Rattle.std.specs.declared.ops.ControlFlow.{ControlFlow}
 use Rattle.std.specs.declared.ops.ControlFlow.TheVariants.{Continue, Break}
 use Rattle.std.proofs.lemmas.Bool.{cases_lt, cases_eq, eq-eqb, ne_eqb, lt-ltb, le-ltb}
@@ -7,7 +7,6 @@ use Rattle.bits.specs.Sets.{without_bit}
 use Rattle.bits.proofs.Facts.{length_with, length_without}
 use Rattle.kinds.specs.Meaning.{Meaning}
 use Rattle.kinds.specs.Lines.{rules_of}
-use Rattle.kinds.specs.declared.line.Line.{Line}
 use Rattle.blocks.specs.Blocks.{table_size}
 use Rattle.choice.specs.Choice.{FitsIn, cost_in}
 use Rattle.choice.specs.Evolution.{exchanges, exchange_at, Evolved, settled, stopped, taken}
@@ -22,10 +21,10 @@ use Rattle.choice.specs.declared.evolve.Ended.{Ended}
 use Rattle.choice.specs.declared.evolve.Ended.TheVariants.{Taken, Spent}
 use Rattle.choice.proofs.Exchanges.{all_exchanges}
 
-module _ {Header Rule Row : Type 0} (k : Meaning Header Rule Row) (lines : List (Line Row)) (room : ℕ) (judge : List ℕ → ℕ) (price : ℕ) where
+module _ {Header Rule Row : Type 0} (k : Meaning Header Rule Row) (rules : List (Option Rule)) (room : ℕ) (judge : List ℕ → ℕ) (price : ℕ) where
   -- it would be taken
   abbrev pub Taking : List ℕ → Type 0
-  Taking set = FitsIn k lines room set × (cost_in k lines judge set < price)
+  Taking set = FitsIn k rules room set × (cost_in k rules judge set < price)
 
   -- the first so many of some sets would not
   abbrev pub NoTaking : List (List ℕ) → ℕ → Type 0
@@ -38,7 +37,7 @@ module _ {Header Rule Row : Type 0} (k : Meaning Header Rule Row) (lines : List 
     pub tries : left ≡ place + 1 + now
     pub before : NoTaking sets place
     pub is : next.bits ≡ get_or sets place []
-    pub costed : next.cost ≡ cost_in k lines judge next.bits
+    pub costed : next.cost ≡ cost_in k rules judge next.bits
     pub takes : Taking (get_or sets place [])
 
   -- what each way to end means
@@ -65,10 +64,10 @@ module _ {Header Rule Row : Type 0} (k : Meaning Header Rule Row) (lines : List 
   }
 
   -- one try: the set is taken, or it goes on behind it
-  tried : (set : List ℕ) (sets : List (List ℕ)) (left : ℕ) → 0 < left → ((now : ℕ) → EndsBy sets now (tries_of (offer_of k lines room judge) price sets now)) → EndsBy (set ∷ sets) left (going_on (after_try (offer_of k lines room judge) price (offer_of k lines room judge set) (left - 1)) (λ now. tries_of (offer_of k lines room judge) price sets now))
+  tried : (set : List ℕ) (sets : List (List ℕ)) (left : ℕ) → 0 < left → ((now : ℕ) → EndsBy sets now (tries_of (offer_of k rules room judge) price sets now)) → EndsBy (set ∷ sets) left (going_on (after_try (offer_of k rules room judge) price (offer_of k rules room judge set) (left - 1)) (λ now. tries_of (offer_of k rules room judge) price sets now))
   tried set sets left some behind =
-      let size = table_size k (rules_of k lines) set in
-      let asked = cost_in k lines judge set in
+      let size = table_size k rules set in
+      let asked = cost_in k rules judge set in
       elim (cases_lt room size) [
         | inl over ↦ rw (lt-ltb room size over) (one_more set sets left _ some (λ takes. omega (arith, takes.0)) (behind (left - 1)))
         | inr fits ↦ elim (cases_lt asked price) [
@@ -77,7 +76,7 @@ module _ {Header Rule Row : Type 0} (k : Meaning Header Rule Row) (lines : List 
         ]
       ]
 
-  pub ends : (sets : List (List ℕ)) (left : ℕ) → EndsBy sets left (tries_of (offer_of k lines room judge) price sets left)
+  pub ends : (sets : List (List ℕ)) (left : ℕ) → EndsBy sets left (tries_of (offer_of k rules room judge) price sets left)
   ends [] left = (omega arith, λ place lt. absurd (omega arith))
   ends (set ∷ sets) left = elim (cases_eq left 0) [
     | inl none ↦ rw (eq-eqb left 0 none) (omega arith, λ place lt. absurd (omega arith))
@@ -101,10 +100,10 @@ module _ {Header Rule Row Judge : Type 0} (k : Meaning Header Rule Row) (cost : 
     went = tries_of (offer_in k cost search) present.cost (exchanges k.width present.bits) left
 
     abbrev Ended_by : ControlFlow Ended ℕ → Type 0
-    Ended_by = EndsBy k search.lines.now search.room (cost search.judge.now) present.cost (exchanges k.width present.bits) left
+    Ended_by = EndsBy k (rules_of k search.lines.now) search.room (cost search.judge.now) present.cost (exchanges k.width present.bits) left
 
     ended_by : (r : ControlFlow Ended ℕ) → r ≡ went → Ended_by r
-    ended_by r is = rw is (ends k search.lines.now search.room (cost search.judge.now) present.cost (exchanges k.width present.bits) left)
+    ended_by r is = rw is (ends k (rules_of k search.lines.now) search.room (cost search.judge.now) present.cost (exchanges k.width present.bits) left)
 
     pub few_left : (now : ℕ) → Continue now ≡ went → now ≤ tries
     few_left now is = omega (arith, (ended_by (Continue now) is).0, so_far.few)

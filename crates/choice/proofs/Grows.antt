@@ -6,49 +6,44 @@ use Rattle.std.proofs.lemmas.Bool.Decides.{nat_tests}
 use Rattle.bits.proofs.Facts.{length_with}
 use Rattle.bits.specs.Sets.{with_bit}
 use Rattle.kinds.specs.Meaning.{Meaning}
-use Rattle.kinds.specs.Lines.{rules_of}
-use Rattle.kinds.specs.declared.line.Line.{Line}
 use Rattle.blocks.specs.Blocks.{table_size}
-use Rattle.choice.specs.Growth.{is_free, full, stuck, no_gain, grow}
+use Rattle.choice.specs.Growth.{is_free, Grown, full, stuck, no_gain, grow}
 use Rattle.choice.specs.Choice.{FitsIn, cost_in}
-use Rattle.choice.specs.Searches.{offer_in, Costed, BestBelow, BestOf, Grows}
-use Rattle.choice.specs.Offers.{offer_of, cheaper_of}
+use Rattle.choice.specs.Offers.{offer_of, cheaper_of, IsBest}
 use Rattle.choice.specs.declared.search.Offer.{Offer}
-use Rattle.choice.specs.declared.search.Search.{Search}
 use Rattle.choice.proofs.Best.{Makes, turn}
 
-module _ {Header Rule Row : Type 0} (k : Meaning Header Rule Row) (lines : List (Line Row)) (room : ℕ) (judge : List ℕ → ℕ) where
-  made : (bits : List ℕ) (n : ℕ) → Makes (FitsIn k lines room) (cost_in k lines judge) bits n (cond (is_free bits n) (offer_of k lines room judge (with_bit n bits)) None)
+module _ {Header Rule Row : Type 0} (k : Meaning Header Rule Row) (rules : List (Option Rule)) (room : ℕ) (judge : List ℕ → ℕ) where
+  made : (bits : List ℕ) (n : ℕ) → Makes (FitsIn k rules room) (cost_in k rules judge) bits n (cond (is_free bits n) (offer_of k rules room judge (with_bit n bits)) None)
   made bits n = elim (cases_Bool (is_free bits n)) [
-    | inl free ↦ elim (cases_lt room (table_size k (rules_of k lines) (with_bit n bits))) [
-      | inl over ↦ rw (free, lt-ltb room (table_size k (rules_of k lines) (with_bit n bits)) over) (λ add. omega (arith, add.fits))
-      | inr fits ↦ rw (free, le-ltb room (table_size k (rules_of k lines) (with_bit n bits)) fits) (refl, refl, record { below = omega arith; free = free; fits = fits })
+    | inl free ↦ elim (cases_lt room (table_size k rules (with_bit n bits))) [
+      | inl over ↦ rw (free, lt-ltb room (table_size k rules (with_bit n bits)) over) (λ add. omega (arith, add.fits))
+      | inr fits ↦ rw (free, le-ltb room (table_size k rules (with_bit n bits)) fits) (refl, refl, record { below = omega arith; free = free; fits = fits })
     ]
     | inr taken ↦ rw taken (λ add. grind (arith, nat_tests, add.free))
   ]
 
-module _ {Header Rule Row Judge : Type 0} (k : Meaning Header Rule Row) (cost : Judge → List ℕ → ℕ) (search : Search Row Judge) where
-  pub best_turn : (bits : List ℕ) (n : ℕ) (best given next : Option Offer) → BestBelow k cost search n bits best → given ≡ cond (is_free bits n) (offer_in k cost search (with_bit n bits)) None → next ≡ cheaper_of best given → BestBelow k cost search (n + 1) bits next
-  best_turn bits n best given next is e f =
-      rw (f, e) (turn (FitsIn k search.lines.now search.room) (cost_in k search.lines.now (cost search.judge.now)) bits n best _ (made k search.lines.now search.room (cost search.judge.now) bits n) is)
+  pub best_turn : (bits : List ℕ) (n : ℕ) (best given next : Option Offer) → IsBest (FitsIn k rules room) (cost_in k rules judge) n bits best → given ≡ cond (is_free bits n) (offer_of k rules room judge (with_bit n bits)) None → next ≡ cheaper_of best given → IsBest (FitsIn k rules room) (cost_in k rules judge) (n + 1) bits next
+  best_turn bits n best given next is e f = rw (f, e) (turn (FitsIn k rules room) (cost_in k rules judge) bits n best _ (made bits n) is)
 
-  module _ (most : ℕ) (present : Offer) (costed : Costed k cost search present) (few : length present.bits < most) where
-    pub grows : (next : Offer) → BestOf k cost search present.bits (Some next) → next.cost < present.cost → (end : List ℕ) → Grows k cost search most next.bits end → Grows k cost search most present.bits end
-    grows next leads less end more = grow few leads.bit leads.best (omega (arith, costed, leads.costed, ap (cost_in k search.lines.now (cost search.judge.now)) leads.set)) (subst (λ set. Grows k cost search most set end) leads.set more)
+module _ (Fits : List ℕ → Type 0) (cost : List ℕ → ℕ) (width : ℕ) where
+  module _ (most : ℕ) (present : Offer) (costed : present.cost ≡ cost present.bits) (few : length present.bits < most) where
+    pub grows : (next : Offer) → IsBest Fits cost width present.bits (Some next) → next.cost < present.cost → (end : List ℕ) → Grown Fits cost width most next.bits end → Grown Fits cost width most present.bits end
+    grows next leads less end more = grow few leads.bit leads.best (omega (arith, costed, leads.costed, ap cost leads.set)) (subst (λ set. Grown Fits cost width most set end) leads.set more)
 
-    pub gains_nothing : (next : Offer) → BestOf k cost search present.bits (Some next) → present.cost ≤ next.cost → Grows k cost search most present.bits present.bits
-    gains_nothing next leads le = no_gain few leads.bit leads.best (omega (arith, costed, leads.costed, ap (cost_in k search.lines.now (cost search.judge.now)) leads.set))
+    pub gains_nothing : (next : Offer) → IsBest Fits cost width present.bits (Some next) → present.cost ≤ next.cost → Grown Fits cost width most present.bits present.bits
+    gains_nothing next leads le = no_gain few leads.bit leads.best (omega (arith, costed, leads.costed, ap cost leads.set))
 
-    pub stays_stuck : BestOf k cost search present.bits None → Grows k cost search most present.bits present.bits
+    pub stays_stuck : IsBest Fits cost width present.bits None → Grown Fits cost width most present.bits present.bits
     stays_stuck none = stuck few none
 
-  pub stays_full : (most : ℕ) (bits : List ℕ) → most ≤ length bits → Grows k cost search most bits bits
+  pub stays_full : (most : ℕ) (bits : List ℕ) → most ≤ length bits → Grown Fits cost width most bits bits
   stays_full most bits le = full le
 
-  pub longer : (bits : List ℕ) (next : Offer) → BestOf k cost search bits (Some next) → length next.bits ≡ length bits + 1
+  pub longer : (bits : List ℕ) (next : Offer) → IsBest Fits cost width bits (Some next) → length next.bits ≡ length bits + 1
   longer bits next leads = omega (arith, ap length leads.set, length_with leads.bit bits)
 
-  pub costed_too : (bits : List ℕ) (next : Offer) → BestOf k cost search bits (Some next) → Costed k cost search next
+  pub costed_too : (bits : List ℕ) (next : Offer) → IsBest Fits cost width bits (Some next) → next.cost ≡ cost next.bits
   costed_too bits next leads = leads.costed
 
 pub room_for_more : (most n : ℕ) (bits : List ℕ) → length bits < most → 2 ^ most ≤ n → 2 ^ (length bits + 1) ≤ n

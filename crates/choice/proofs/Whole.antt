@@ -4,8 +4,6 @@ use Rattle.std.proofs.Math.Pow.{pow_mono}
 use Rattle.std.proofs.lemmas.Bool.{cases_lt, lt-ltb}
 use Rattle.bits.proofs.Facts.{length_with}
 use Rattle.kinds.specs.Meaning.{Meaning}
-use Rattle.kinds.specs.Lines.{rules_of}
-use Rattle.kinds.specs.declared.line.Line.{Line}
 use Rattle.blocks.specs.Blocks.{table_size}
 use Rattle.choice.specs.Growth.{Grown, full, stuck, no_gain, grow}
 use Rattle.choice.specs.Choice.{FitsIn, cost_in, IsChoice, Reached, Unbettered}
@@ -17,28 +15,28 @@ use Rattle.choice.specs.declared.search.Offer.{Offer}
 use Rattle.choice.proofs.Deterministic.{chosen_one}
 use Rattle.choice.proofs.Reached.{chosen_reached, chosen_unbettered, chosen_few}
 
-module _ {Header Rule Row : Type 0} (k : Meaning Header Rule Row) (lines : List (Line Row)) (room : ℕ) (judge : List ℕ → ℕ) where
+module _ {Header Rule Row : Type 0} (k : Meaning Header Rule Row) (rules : List (Option Rule)) (room : ℕ) (judge : List ℕ → ℕ) where
   -- an offer is of a set whose table fits
-  pub offer_fits : (set : List ℕ) (next : Offer) (r : Option Offer) → r ≡ Some next → r ≡ offer_of k lines room judge set → FitsIn k lines room set
+  pub offer_fits : (set : List ℕ) (next : Offer) (r : Option Offer) → r ≡ Some next → r ≡ offer_of k rules room judge set → FitsIn k rules room set
   offer_fits set next r some is =
-      elim (cases_lt room (table_size k (rules_of k lines) set)) [
-        | inl over ↦ (let none : Some next ≡ None = sym some ∙ is ∙ rw (lt-ltb room (table_size k (rules_of k lines) set) over) refl in absurd (grind (arith, none)))
+      elim (cases_lt room (table_size k rules set)) [
+        | inl over ↦ (let none : Some next ≡ None = sym some ∙ is ∙ rw (lt-ltb room (table_size k rules set) over) refl in absurd (grind (arith, none)))
         | inr fits ↦ fits
       ]
 
-  pub only_choice : (limits : Limits) (choice : Choice) → IsChoice k lines room judge limits choice → (other : Choice) → IsChoice k lines room judge limits other → other ≡ choice
+  pub only_choice : (limits : Limits) (choice : Choice) → IsChoice k rules room judge limits choice → (other : Choice) → IsChoice k rules room judge limits other → other ≡ choice
   only_choice limits choice is other too =
-      let one = chosen_one (FitsIn k lines room) (cost_in k lines judge) k.width limits.most_bits limits.most_tries choice.bits other.bits choice.tries other.tries choice.outcome other.outcome is too in
+      let one = chosen_one (FitsIn k rules room) (cost_in k rules judge) k.width limits.most_bits limits.most_tries choice.bits other.bits choice.tries other.tries choice.outcome other.outcome is too in
       λ i. record { bits = one.0 i; tries = one.1 i; outcome = one.2 i }
 
-  pub each_reached : FitsIn k lines room [] → (asked : Limits) (other : Choice) → IsChoice k lines room judge asked other → Reached k.width (FitsIn k lines room) asked.most_bits other.bits
-  each_reached fits asked other = chosen_reached (FitsIn k lines room) (cost_in k lines judge) k.width asked.most_bits asked.most_tries other.bits other.tries other.outcome fits
+  pub each_reached : FitsIn k rules room [] → (asked : Limits) (other : Choice) → IsChoice k rules room judge asked other → Reached k.width (FitsIn k rules room) asked.most_bits other.bits
+  each_reached fits asked other = chosen_reached (FitsIn k rules room) (cost_in k rules judge) k.width asked.most_bits asked.most_tries other.bits other.tries other.outcome fits
 
-  pub few_tries : (limits : Limits) (choice : Choice) → IsChoice k lines room judge limits choice → choice.tries ≤ limits.most_tries
-  few_tries limits choice = chosen_few (FitsIn k lines room) (cost_in k lines judge) k.width limits.most_bits limits.most_tries choice.bits choice.tries choice.outcome
+  pub few_tries : (limits : Limits) (choice : Choice) → IsChoice k rules room judge limits choice → choice.tries ≤ limits.most_tries
+  few_tries limits choice = chosen_few (FitsIn k rules room) (cost_in k rules judge) k.width limits.most_bits limits.most_tries choice.bits choice.tries choice.outcome
 
-  pub settled_unbettered : (limits : Limits) (choice : Choice) → IsChoice k lines room judge limits choice → choice.outcome ≡ Settled → Unbettered k.width (FitsIn k lines room) (cost_in k lines judge) choice.bits
-  settled_unbettered limits choice = chosen_unbettered (FitsIn k lines room) (cost_in k lines judge) k.width limits.most_bits limits.most_tries choice.bits choice.tries choice.outcome
+  pub settled_unbettered : (limits : Limits) (choice : Choice) → IsChoice k rules room judge limits choice → choice.outcome ≡ Settled → Unbettered k.width (FitsIn k rules room) (cost_in k rules judge) choice.bits
+  settled_unbettered limits choice = chosen_unbettered (FitsIn k rules room) (cost_in k rules judge) k.width limits.most_bits limits.most_tries choice.bits choice.tries choice.outcome
 
 -- what has grown has at most so many bits
 grown_few : {Fits : List ℕ → Type 0} {cost : List ℕ → ℕ} {width most : ℕ} {bits end : List ℕ} → length bits ≤ most → Grown Fits cost width most bits end → length end ≤ most

@@ -1,21 +1,23 @@
 -- The choice of bits for the table of some lines in an area, by a judge.
---     FitsIn       whether the table of a set of bits fits
---     cost_in      what the judge says of its block sizes
---     Chosen       growth from no bit, and evolution from the set that it ends at
---     IsChoice     a choice that is told is the one reached
---     Reached      what is known of every set that a choice reaches
---     Unbettered   no exchange of a chosen bit for an unchosen one, whose table fits, costs less
+--     Reached               what is known of every set that a choice reaches
+--     Chosen                growth from no bit, and evolution from the set that it ends at
+--     Unbettered            no exchange of a chosen bit for an unchosen one, whose table fits, costs less
+--     FitsIn                whether the table of a set of bits fits
+--     cost_in               what the judge says of its block sizes
+--     IsChoice              a choice as it is told is the one reached
+--     IsOnlyChoice          and there is no other: neither its bits nor its tries nor how it ended could differ
+--     EachReached           the bits of every choice are known to be a set that is reached
+--     UnbetteredIfSettled   a choice that settled can't be bettered by an exchange
 -- Assumes nothing.
-use Rattle.std.specs.Prelude.{◌≡◌, ℕ, ◌<◌, ◌≤◌, true, false, List, [], length}
+use Rattle.std.specs.Prelude.{◌≡◌, ℕ, ◌<◌, ◌≤◌, true, false, List, [], length, Option}
 use Rattle.bits.specs.Sets.{rising, member}
 use Rattle.kinds.specs.Meaning.{Meaning}
-use Rattle.kinds.specs.Lines.{rules_of}
-use Rattle.kinds.specs.declared.line.Line.{Line}
 use Rattle.blocks.specs.Blocks.{sizes, Fits}
 use Rattle.choice.specs.Growth.{Grown}
 use Rattle.choice.specs.Evolution.{exchanged, Evolved}
 use Rattle.choice.specs.declared.choice.Choice.{Choice}
 use Rattle.choice.specs.declared.choice.Outcome.{Outcome}
+use Rattle.choice.specs.declared.choice.Outcome.TheVariants.{Settled}
 use Rattle.choice.specs.declared.limits.Limits.{Limits}
 
 module _ (width : ℕ) (Fits : List ℕ → Type 0) where
@@ -34,13 +36,23 @@ module _ (width : ℕ) (Fits : List ℕ → Type 0) where
     abbrev pub Unbettered : List ℕ → Type 0
     Unbettered bits = (out b : ℕ) → member out bits ≡ true → b < width → member b bits ≡ false → Fits (exchanged bits out b) → cost bits ≤ cost (exchanged bits out b)
 
-module _ {Header Rule Row : Type 0} (k : Meaning Header Rule Row) (lines : List (Line Row)) where
+module _ {Header Rule Row : Type 0} (k : Meaning Header Rule Row) (rules : List (Option Rule)) where
   abbrev pub FitsIn : ℕ → List ℕ → Type 0
-  FitsIn room bits = Fits k (rules_of k lines) bits room
+  FitsIn room bits = Fits k rules bits room
 
   abbrev pub cost_in : (List ℕ → ℕ) → List ℕ → ℕ
-  cost_in judge bits = judge (sizes k (rules_of k lines) bits)
+  cost_in judge bits = judge (sizes k rules bits)
 
   module _ (room : ℕ) (judge : List ℕ → ℕ) where
     abbrev pub IsChoice : Limits → Choice → Type 0
     IsChoice limits choice = Chosen k.width (FitsIn room) (cost_in judge) limits.most_bits limits.most_tries choice.bits choice.tries choice.outcome
+
+    abbrev pub IsOnlyChoice : Limits → Choice → Type 0
+    IsOnlyChoice limits choice = (other : Choice) → IsChoice limits other → other ≡ choice
+
+    -- of this choice and of each other, whatever limits it has
+    abbrev pub EachReached : Type 0
+    EachReached = (limits : Limits) (choice : Choice) → IsChoice limits choice → Reached k.width (FitsIn room) limits.most_bits choice.bits
+
+    abbrev pub UnbetteredIfSettled : Choice → Type 0
+    UnbetteredIfSettled choice = choice.outcome ≡ Settled → Unbettered k.width (FitsIn room) (cost_in judge) choice.bits

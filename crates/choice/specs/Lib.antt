@@ -6,3 +6,4 @@ pub mod Searches
 pub mod Tries
 pub mod Checks
 pub mod Faults
+pub mod Outcomes

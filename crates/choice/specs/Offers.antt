@@ -7,15 +7,13 @@
 use Rattle.std.specs.Prelude.{◌≡◌, ℕ, List, Some, None, Option, if◌then◌else◌, nat_lt}
 use Rattle.bits.specs.Sets.{with_bit}
 use Rattle.kinds.specs.Meaning.{Meaning}
-use Rattle.kinds.specs.Lines.{rules_of}
-use Rattle.kinds.specs.declared.line.Line.{Line}
 use Rattle.blocks.specs.Blocks.{table_size}
 use Rattle.choice.specs.Growth.{Addable, Best}
 use Rattle.choice.specs.Choice.{cost_in}
 use Rattle.choice.specs.declared.search.Offer.{Offer}
 
-abbrev pub offer_of : {Header Rule Row : Type 0} → Meaning Header Rule Row → List (Line Row) → ℕ → (List ℕ → ℕ) → List ℕ → Option Offer
-offer_of k lines room judge bits = if nat_lt room (table_size k (rules_of k lines) bits) then None else Some (record { bits = bits; cost = cost_in k lines judge bits })
+abbrev pub offer_of : {Header Rule Row : Type 0} → Meaning Header Rule Row → List (Option Rule) → ℕ → (List ℕ → ℕ) → List ℕ → Option Offer
+offer_of k rules room judge bits = if nat_lt room (table_size k rules bits) then None else Some (record { bits = bits; cost = cost_in k rules judge bits })
 
 abbrev pub cheaper_of : Option Offer → Option Offer → Option Offer
 cheaper_of None other = other

@@ -1,11 +1,9 @@
 // The choice of bits, whole.
-ghost use Rattle.std.specs.Prelude.{◌≡◌, ◌^◌, ◌≤◌, IfOk, List, length, replicate, if◌then◌else◌};
+ghost use Rattle.std.specs.Prelude.{◌≤◌, ◌≡◌, IfOk, length, replicate, if◌then◌else◌};
 ghost use Rattle.kinds.specs.Checks.{MadeOf};
+ghost use Rattle.kinds.specs.Lines.{rules_of};
 ghost use Rattle.choice.specs.Checks.{allowed, began};
-ghost use Rattle.choice.specs.Choice.{IsChoice, Reached, Unbettered, FitsIn, cost_in};
-ghost use Rattle.choice.specs.declared.choice.Choice.{Choice};
-ghost use Rattle.choice.specs.declared.choice.Outcome.TheVariants.{Settled};
-ghost use Rattle.choice.specs.declared.limits.Limits.{Limits};
+ghost use Rattle.choice.specs.Choice.{IsChoice, IsOnlyChoice, EachReached, UnbetteredIfSettled};
 
 use super::choice::Choice;
 use super::limits::Limits;
@@ -24,11 +22,11 @@ pub fn choose<K: Kind, J: Judge>(
     limits: Limits,
     tally: &mut [u32],
 ) -> Result<Choice, Refusal>
-    ensures answer { MadeOf (λ _. IsChoice K.meaning lines.now room (J.cost judge.now) limits) (allowed K.meaning lines.now limits (length tally.old) room) result }
-    ensures only { IfOk result (λ choice. (other : Choice) → IsChoice K.meaning lines.now room (J.cost judge.now) limits other → other ≡ choice) }
-    ensures reached { IfOk result (λ choice. (asked : Limits) (other : Choice) → IsChoice K.meaning lines.now room (J.cost judge.now) asked other → Reached K.meaning.width (FitsIn K.meaning lines.now room) asked.most_bits other.bits) }
+    ensures answer { MadeOf (λ _. IsChoice K.meaning (rules_of K.meaning lines.now) room (J.cost judge.now) limits) (allowed K.meaning lines.now limits (length tally.old) room) result }
+    ensures only { IfOk result (IsOnlyChoice K.meaning (rules_of K.meaning lines.now) room (J.cost judge.now) limits) }
+    ensures reached { IfOk result (λ _. EachReached K.meaning (rules_of K.meaning lines.now) room (J.cost judge.now)) }
     ensures tries { IfOk result (λ choice. choice.tries ≤ limits.most_tries) }
-    ensures unbettered { IfOk result (λ choice. choice.outcome ≡ Settled → Unbettered K.meaning.width (FitsIn K.meaning lines.now room) (cost_in K.meaning lines.now (J.cost judge.now)) choice.bits) }
+    ensures unbettered { IfOk result (UnbetteredIfSettled K.meaning (rules_of K.meaning lines.now) room (J.cost judge.now)) }
     ensures tally { tally.new ≡ (if began result then replicate (length tally.old) 0 else tally.old) }
 {
     limits.check::<K>()?;

@@ -1,4 +1,5 @@
 use Rattle.std.proofs.Common.{rules, arith, ◌≡◌, ◌^◌, ◌≤◌, [], length}
+use Rattle.kinds.specs.Lines.{rules_of}
 use Rattle.choice.proofs.Whole.{offer_fits, only_choice, each_reached, few_tries, settled_unbettered, grown_room}
 use Rattle.choice.proofs.choosing.choose.Goals as goal
 
@@ -10,13 +11,13 @@ evolve-requires-clause-room g c =
     grown_room _ none c.grow-grown.ensures.grown (omega (arith, room, same))
 
 pub returns-clause-only : goal.returns-clause-only
-returns-clause-only g c = only_choice g.K.Kind.meaning c.args.lines.now c.args.room (g.J.Judge.cost c.args.judge.now) c.args.limits c.evolve.result (search rules)
+returns-clause-only g c = only_choice g.K.Kind.meaning (rules_of g.K.Kind.meaning c.args.lines.now) c.args.room (g.J.Judge.cost c.args.judge.now) c.args.limits c.evolve.result (search rules)
 
 pub returns-clause-reached : goal.returns-clause-reached
-returns-clause-reached g c = each_reached g.K.Kind.meaning c.args.lines.now c.args.room (g.J.Judge.cost c.args.judge.now) (offer_fits g.K.Kind.meaning c.args.lines.now c.args.room (g.J.Judge.cost c.args.judge.now) [] c.in_ok-none.none c.offer.result c.in_ok-none.ensures.ok_part (search rules))
+returns-clause-reached g c = each_reached g.K.Kind.meaning (rules_of g.K.Kind.meaning c.args.lines.now) c.args.room (g.J.Judge.cost c.args.judge.now) (offer_fits g.K.Kind.meaning (rules_of g.K.Kind.meaning c.args.lines.now) c.args.room (g.J.Judge.cost c.args.judge.now) [] c.in_ok-none.none c.offer.result c.in_ok-none.ensures.ok_part (search rules))
 
 pub returns-clause-tries : goal.returns-clause-tries
-returns-clause-tries g c = few_tries g.K.Kind.meaning c.args.lines.now c.args.room (g.J.Judge.cost c.args.judge.now) c.args.limits c.evolve.result (search rules)
+returns-clause-tries g c = few_tries g.K.Kind.meaning (rules_of g.K.Kind.meaning c.args.lines.now) c.args.room (g.J.Judge.cost c.args.judge.now) c.args.limits c.evolve.result (search rules)
 
 pub returns-clause-unbettered : goal.returns-clause-unbettered
-returns-clause-unbettered g c = settled_unbettered g.K.Kind.meaning c.args.lines.now c.args.room (g.J.Judge.cost c.args.judge.now) c.args.limits c.evolve.result (search rules)
+returns-clause-unbettered g c = settled_unbettered g.K.Kind.meaning (rules_of g.K.Kind.meaning c.args.lines.now) c.args.room (g.J.Judge.cost c.args.judge.now) c.args.limits c.evolve.result (search rules)
