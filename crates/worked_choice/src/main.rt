@@ -1,6 +1,11 @@
 // A client of the choice: it chooses the bits for the table of the seven bridge lines, by each judge and within each limit that matters to them.
 #![tactic(auto)]
 
+ghost use Rattle.std.specs.Prelude.{IfOk};
+ghost use Rattle.bridge.specs.Bridge.{bridge};
+ghost use Rattle.seven_lines.specs.Seven.{seven};
+ghost use Rattle.choice.specs.Choice.{IsChoice};
+
 use bridge::Bridge;
 use choice::{Choice, Limits, Refusal};
 use judges::{Judge, Largest, Squares};
@@ -14,7 +19,9 @@ const MANY: u32 = 1000;
 const LARGE: usize = 64;
 
 // Two bits at most of the seven lines, by a judge.
-fn two_bits<J: Judge>(judge: &J, room: usize, most_tries: u32) -> Result<Choice, Refusal> {
+fn two_bits<J: Judge>(judge: &J, room: usize, most_tries: u32) -> Result<Choice, Refusal>
+    ensures { IfOk result (IsChoice bridge seven room (J.cost judge.now) (record { most_bits = 2; most_tries = most_tries })) }
+{
     let limits = Limits {
         most_bits: 2,
         most_tries,
