@@ -34,10 +34,7 @@ fn refuses_a_short_tally(rt: HostRuntime) -> Result<(), Fail> {
 #[test]
 fn refuses_many_lines(rt: HostRuntime) {
     assert_eq!(rt; blocks::ready(16384, 1, 1), Ok(()));
-    assert_eq!(rt;
-        blocks::ready(16385, 1, 0),
-        Err(Refusal::TooManyLines)
-    );
+    assert_eq!(rt; blocks::ready(16385, 1, 0), Err(Refusal::TooManyLines));
 }
 
 #[test]

@@ -1,41 +1,54 @@
-// A packet answered from a table of one routed rule, as the README shows it.
-use bits::Bits;
+// A packet answered from a table of two routed rules, as the README shows it.
+use choice::Limits;
+use judges::Largest;
 use kinds::FaultCode;
 use routed::{Header, Routed, Row, Rule};
 use std::test::Fail;
 
 fn answer(
-    row: Row,
+    rows: [Row; 2],
     packet: &[u8],
     area: &mut [u32],
     tally: &mut [u32],
 ) -> Result<(Option<usize>, usize), FaultCode> {
-    let rule = Rule::try_from(row)?;
-    let lines = [kinds::filled::<Routed>(&rule)];
+    let [first, second] = rows;
+    let lines = [
+        kinds::filled::<Routed>(&Rule::try_from(first)?),
+        kinds::filled::<Routed>(&Rule::try_from(second)?),
+    ];
     let header = Header::read(packet)?;
-    let bits = Bits::none().with(1).unwrap().with(2).unwrap();
-    layout::lay::<Routed>(&lines, &bits, area, tally)?;
-    Ok(layout::look_up::<Routed>(&lines, &bits, area, &header)?)
+    let limits = Limits {
+        most_bits: 8,
+        most_tries: 1000,
+    };
+    let choice = choice::choose::<Routed, Largest>(&lines, area.len(), &Largest, limits, tally)?;
+    layout::lay::<Routed>(&lines, &choice.bits, area, tally)?;
+    Ok(layout::look_up::<Routed>(&lines, &choice.bits, area, &header)?)
+}
+
+// The rule for a destination port.
+fn port(port: u16) -> Row {
+    Row {
+        destination_low: port,
+        destination_high: port,
+        ..Row::ALL
+    }
 }
 
 #[test]
-fn answers_a_packet(rt: HostRuntime) -> Result<(), Fail> {
-    let mut row = Row::ALL;
-    row.destination_low = 53;
-    row.destination_high = 53;
+fn answers_a_packet(rt: HostRuntime) {
+    let rows = [port(53), port(80)];
     let mut packet = [0u8; 24];
     packet[0] = 0x45;
     packet[9] = 17;
-    packet[23] = 53;
     let mut area = [9u32; 9];
-    let mut tally = [9u32; 4];
-    assert_eq!(rt;
-        answer(row, &packet, &mut area, &mut tally),
-        Ok((Some(0), 1))
-    );
-    packet[23] = 54;
-    assert_eq!(rt; answer(row, &packet, &mut area, &mut tally), Ok((None, 1)));
-    let found = answer(row, &packet, &mut area[..8], &mut tally);
-    assert_eq!(rt; found.map_err(|code| code.number), Err(13));
-    Ok(())
+    let mut tally = [9u32; 256];
+    for (to, found) in [(53u8, (Some(0), 1)), (80, (Some(1), 1)), (54, (None, 1))] {
+        packet[23] = to;
+        assert_eq!(rt; answer(rows, &packet, &mut area, &mut tally), Ok(found));
+    }
+    let small = answer(rows, &packet, &mut [9u32; 3], &mut tally);
+    assert_eq!(rt; small.map_err(|code| code.number), Err(13));
+    let short = answer(rows, &packet, &mut area, &mut [9u32; 255]);
+    assert_eq!(rt; short.map_err(|code| code.number), Err(14));
 }
