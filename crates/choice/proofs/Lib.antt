@@ -4,5 +4,6 @@ pub mod Reached
 pub mod Best
 pub mod Grows
 pub mod Tries
+pub mod Rounds
 pub mod Evolves
 pub mod Whole
