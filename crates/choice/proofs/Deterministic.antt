@@ -51,5 +51,5 @@ module _ (Fits : List ℕ → Type 0) (cost : List ℕ → ℕ) (width : ℕ) wh
       let r = evolved_one on (subst (λ x. Evolved Fits cost width (exchange_at width bits x) (left - (x + 1)) o u t) e on') in
       (r.0, omega (arith, r.1), r.2)
 
-  pub chosen_one : (most tries : ℕ) (end other : List ℕ) (used more : ℕ) (s t : Outcome) → Chosen width Fits cost most tries end used s → Chosen width Fits cost most tries other more t → (other ≡ end) × (more ≡ used) × (t ≡ s)
+  pub chosen_one : (most tries : ℕ) (end other : List ℕ) (used more : ℕ) (s t : Outcome) → Chosen Fits cost width most tries end used s → Chosen Fits cost width most tries other more t → (other ≡ end) × (more ≡ used) × (t ≡ s)
   chosen_one most tries end other used more s t c d = evolved_one c.evolves (subst (λ x. Evolved Fits cost width x tries other more t) (grown_one most d.grows c.grows) d.evolves)

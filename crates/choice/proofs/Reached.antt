@@ -15,10 +15,10 @@ use Rattle.choice.specs.declared.choice.Outcome.TheVariants.{Settled}
 use Rattle.choice.proofs.Exchanges.{all_exchanges, has_exchange}
 
 module _ (Fits : List ℕ → Type 0) (cost : List ℕ → ℕ) (width most : ℕ) where
-  pub reached_none : Fits [] → Reached width Fits most []
+  pub reached_none : Fits [] → Reached Fits width most []
   reached_none fits = record { few = omega arith; rises = refl; below = λ b is. absurd (grind (arith, nat_tests)); fits = fits }
 
-  pub reached_with : (bits : List ℕ) (b : ℕ) → Reached width Fits most bits → length bits < most → Addable Fits width bits b → Reached width Fits most (with_bit b bits)
+  pub reached_with : (bits : List ℕ) (b : ℕ) → Reached Fits width most bits → length bits < most → Addable Fits width bits b → Reached Fits width most (with_bit b bits)
   reached_with bits b r few add =
       let new : member b bits ≡ false = grind (arith, nat_tests, add.free) in
       record {
@@ -31,7 +31,7 @@ module _ (Fits : List ℕ → Type 0) (cost : List ℕ → ℕ) (width most : �
         fits = add.fits;
       }
 
-  pub reached_exchanged : (bits : List ℕ) (out b : ℕ) → Reached width Fits most bits → member out bits ≡ true → b < width → is_free bits b ≡ true → Fits (exchanged bits out b) → Reached width Fits most (exchanged bits out b)
+  pub reached_exchanged : (bits : List ℕ) (out b : ℕ) → Reached Fits width most bits → member out bits ≡ true → b < width → is_free bits b ≡ true → Fits (exchanged bits out b) → Reached Fits width most (exchanged bits out b)
   reached_exchanged bits out b r has below free fits =
       let new : member b bits ≡ false = grind (arith, nat_tests) in
       let still : member b (without_bit out bits) ≡ false = member_without b out bits new in
@@ -45,26 +45,26 @@ module _ (Fits : List ℕ → Type 0) (cost : List ℕ → ℕ) (width most : �
         fits = fits;
       }
 
-  pub reached_at : (bits : List ℕ) (place : ℕ) → Reached width Fits most bits → place < length (exchanges width bits) → Fits (exchange_at width bits place) → Reached width Fits most (exchange_at width bits place)
-  reached_at bits place r lt = all_exchanges width bits (λ set. Fits set → Reached width Fits most set) (λ out b. reached_exchanged bits out b r) place [] lt
+  pub reached_at : (bits : List ℕ) (place : ℕ) → Reached Fits width most bits → place < length (exchanges width bits) → Fits (exchange_at width bits place) → Reached Fits width most (exchange_at width bits place)
+  reached_at bits place r lt = all_exchanges width bits (λ set. Fits set → Reached Fits width most set) (λ out b. reached_exchanged bits out b r) place [] lt
 
-  grown_reached : {bits end : List ℕ} → Reached width Fits most bits → Grown Fits cost width most bits end → Reached width Fits most end
+  grown_reached : {bits end : List ℕ} → Reached Fits width most bits → Grown Fits cost width most bits end → Reached Fits width most end
   grown_reached r (full _) = r
   grown_reached r (stuck _ _) = r
   grown_reached r (no_gain _ _ _ _) = r
   grown_reached r (grow {bits} few b p _ more) = grown_reached (reached_with bits b r few p.addable) more
 
-  evolved_reached : {bits : List ℕ} {left : ℕ} {end : List ℕ} {used : ℕ} {outcome : Outcome} → Reached width Fits most bits → Evolved Fits cost width bits left end used outcome → Reached width Fits most end
+  evolved_reached : {bits : List ℕ} {left : ℕ} {end : List ℕ} {used : ℕ} {outcome : Outcome} → Reached Fits width most bits → Evolved Fits cost width bits left end used outcome → Reached Fits width most end
   evolved_reached r (settled _ _) = r
   evolved_reached r (stopped _ _) = r
   evolved_reached r (taken {bits} place _ lt _ better on) = evolved_reached (reached_at bits place r lt better.0) on
 
-  pub chosen_reached : (tries : ℕ) (end : List ℕ) (used : ℕ) (outcome : Outcome) → Fits [] → Chosen width Fits cost most tries end used outcome → Reached width Fits most end
+  pub chosen_reached : (tries : ℕ) (end : List ℕ) (used : ℕ) (outcome : Outcome) → Fits [] → Chosen Fits cost width most tries end used outcome → Reached Fits width most end
   chosen_reached tries end used outcome fits c = evolved_reached (grown_reached (reached_none fits) c.grows) c.evolves
 
 module _ (Fits : List ℕ → Type 0) (cost : List ℕ → ℕ) (width : ℕ) where
   -- a settled set is bettered by no exchange
-  evolved_unbettered : {bits : List ℕ} {left : ℕ} {end : List ℕ} {used : ℕ} {outcome : Outcome} → Evolved Fits cost width bits left end used outcome → outcome ≡ Settled → Unbettered width Fits cost end
+  evolved_unbettered : {bits : List ℕ} {left : ℕ} {end : List ℕ} {used : ℕ} {outcome : Outcome} → Evolved Fits cost width bits left end used outcome → outcome ≡ Settled → Unbettered Fits cost width end
   evolved_unbettered (settled {bits} _ none) is out b has below new fits =
       let found = has_exchange width bits out b has below (grind (arith, nat_tests)) in
       let at : exchange_at width bits found.0 ≡ exchanged bits out b = get_or_default (exchanges width bits) found.0 [] (exchanged bits out b) found.1 ∙ found.2 in
@@ -77,8 +77,8 @@ module _ (Fits : List ℕ → Type 0) (cost : List ℕ → ℕ) (width : ℕ) wh
   evolved_few (stopped _ _) = omega arith
   evolved_few (taken place lt _ _ _ on) = omega (arith, evolved_few on)
 
-  pub chosen_unbettered : (most tries : ℕ) (end : List ℕ) (used : ℕ) (outcome : Outcome) → Chosen width Fits cost most tries end used outcome → outcome ≡ Settled → Unbettered width Fits cost end
+  pub chosen_unbettered : (most tries : ℕ) (end : List ℕ) (used : ℕ) (outcome : Outcome) → Chosen Fits cost width most tries end used outcome → outcome ≡ Settled → Unbettered Fits cost width end
   chosen_unbettered most tries end used outcome c = evolved_unbettered c.evolves
 
-  pub chosen_few : (most tries : ℕ) (end : List ℕ) (used : ℕ) (outcome : Outcome) → Chosen width Fits cost most tries end used outcome → used ≤ tries
+  pub chosen_few : (most tries : ℕ) (end : List ℕ) (used : ℕ) (outcome : Outcome) → Chosen Fits cost width most tries end used outcome → used ≤ tries
   chosen_few most tries end used outcome c = evolved_few c.evolves

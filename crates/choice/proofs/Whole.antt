@@ -29,13 +29,13 @@ module _ {Header Rule Row : Type 0} (k : Meaning Header Rule Row) (rules : List 
       let one = chosen_one (FitsIn k rules room) (cost_in k rules judge) k.width limits.most_bits limits.most_tries choice.bits other.bits choice.tries other.tries choice.outcome other.outcome is too in
       λ i. record { bits = one.0 i; tries = one.1 i; outcome = one.2 i }
 
-  pub each_reached : FitsIn k rules room [] → (asked : Limits) (other : Choice) → IsChoice k rules room judge asked other → Reached k.width (FitsIn k rules room) asked.most_bits other.bits
+  pub each_reached : FitsIn k rules room [] → (asked : Limits) (other : Choice) → IsChoice k rules room judge asked other → Reached (FitsIn k rules room) k.width asked.most_bits other.bits
   each_reached fits asked other = chosen_reached (FitsIn k rules room) (cost_in k rules judge) k.width asked.most_bits asked.most_tries other.bits other.tries other.outcome fits
 
   pub few_tries : (limits : Limits) (choice : Choice) → IsChoice k rules room judge limits choice → choice.tries ≤ limits.most_tries
   few_tries limits choice = chosen_few (FitsIn k rules room) (cost_in k rules judge) k.width limits.most_bits limits.most_tries choice.bits choice.tries choice.outcome
 
-  pub settled_unbettered : (limits : Limits) (choice : Choice) → IsChoice k rules room judge limits choice → choice.outcome ≡ Settled → Unbettered k.width (FitsIn k rules room) (cost_in k rules judge) choice.bits
+  pub settled_unbettered : (limits : Limits) (choice : Choice) → IsChoice k rules room judge limits choice → choice.outcome ≡ Settled → Unbettered (FitsIn k rules room) (cost_in k rules judge) k.width choice.bits
   settled_unbettered limits choice = chosen_unbettered (FitsIn k rules room) (cost_in k rules judge) k.width limits.most_bits limits.most_tries choice.bits choice.tries choice.outcome
 
 -- what has grown has at most so many bits

@@ -20,14 +20,14 @@ use Rattle.choice.specs.declared.choice.Outcome.{Outcome}
 use Rattle.choice.specs.declared.choice.Outcome.TheVariants.{Settled}
 use Rattle.choice.specs.declared.limits.Limits.{Limits}
 
-module _ (width : ℕ) (Fits : List ℕ → Type 0) where
-  pub record Reached (most : ℕ) (bits : List ℕ) : Type 0 where
+module _ (Fits : List ℕ → Type 0) where
+  pub record Reached (width most : ℕ) (bits : List ℕ) : Type 0 where
     pub few : length bits ≤ most
     pub rises : rising bits ≡ true
     pub below : (b : ℕ) → member b bits ≡ true → b < width
     pub fits : Fits bits
 
-  module _ (cost : List ℕ → ℕ) where
+  module _ (cost : List ℕ → ℕ) (width : ℕ) where
     pub record Chosen (most tries : ℕ) (bits : List ℕ) (used : ℕ) (outcome : Outcome) : Type 0 where
       pub grown : List ℕ
       pub grows : Grown Fits cost width most [] grown
@@ -45,14 +45,14 @@ module _ {Header Rule Row : Type 0} (k : Meaning Header Rule Row) (rules : List 
 
   module _ (room : ℕ) (judge : List ℕ → ℕ) where
     abbrev pub IsChoice : Limits → Choice → Type 0
-    IsChoice limits choice = Chosen k.width (FitsIn room) (cost_in judge) limits.most_bits limits.most_tries choice.bits choice.tries choice.outcome
+    IsChoice limits choice = Chosen (FitsIn room) (cost_in judge) k.width limits.most_bits limits.most_tries choice.bits choice.tries choice.outcome
 
     abbrev pub IsOnlyChoice : Limits → Choice → Type 0
     IsOnlyChoice limits choice = (other : Choice) → IsChoice limits other → other ≡ choice
 
-    -- of this choice and of each other, whatever limits it has
+    -- whatever its limits: so it is known of each set on the way to a choice too, since smaller limits end there
     abbrev pub EachReached : Type 0
-    EachReached = (limits : Limits) (choice : Choice) → IsChoice limits choice → Reached k.width (FitsIn room) limits.most_bits choice.bits
+    EachReached = (limits : Limits) (choice : Choice) → IsChoice limits choice → Reached (FitsIn room) k.width limits.most_bits choice.bits
 
     abbrev pub UnbetteredIfSettled : Choice → Type 0
-    UnbetteredIfSettled choice = choice.outcome ≡ Settled → Unbettered k.width (FitsIn room) (cost_in judge) choice.bits
+    UnbetteredIfSettled choice = choice.outcome ≡ Settled → Unbettered (FitsIn room) (cost_in judge) k.width choice.bits
