@@ -66,7 +66,7 @@ module _ (Fits : List ℕ → Type 0) (cost : List ℕ → ℕ) (width : ℕ) wh
   -- a settled set is bettered by no exchange
   evolved_unbettered : {bits : List ℕ} {left : ℕ} {end : List ℕ} {used : ℕ} {outcome : Outcome} → Evolved Fits cost width bits left end used outcome → outcome ≡ Settled → Unbettered Fits cost width end
   evolved_unbettered (settled {bits} _ none) is out b has below new fits =
-      let found = has_exchange width bits out b has below (grind (arith, nat_tests)) in
+      let found = has_exchange width bits out b has below new in
       let at : exchange_at width bits found.0 ≡ exchanged bits out b = get_or_default (exchanges width bits) found.0 [] (exchanged bits out b) found.1 ∙ found.2 in
       ⊎_elim (λ less. absurd (none found.0 found.1 (rw at (fits, less)))) (λ le. le) (cases_lt (cost (exchanged bits out b)) (cost bits))
   evolved_unbettered (stopped _ _) is out b has below new fits = absurd (grind (arith, is))

@@ -4,14 +4,14 @@
 --     allowed         no check fails, or the refusal of the first that does
 --     began           whether a choice that was answered so began to count
 -- Assumes nothing.
-use Rattle.std.specs.Prelude.{ℕ, ◌^◌, Bool, true, false, ◌||◌, List, [], ◌∷◌, length, Ok, Err, Result, nat_lt}
+use Rattle.std.specs.Prelude.{ℕ, ◌^◌, Bool, true, false, ◌||◌, List, [], ◌∷◌, ◌++◌, map, length, Ok, Err, Result, nat_lt}
 use Rattle.kinds.specs.Checks.{checked}
 use Rattle.kinds.specs.Meaning.{Meaning}
 use Rattle.kinds.specs.Lines.{rules_of}
 use Rattle.kinds.specs.declared.line.Line.{Line}
 use Rattle.blocks.specs.Blocks.{table_size}
-use Rattle.blocks.specs.Counts.{began as table_began}
-use Rattle.blocks.specs.declared.refusal.Refusal.TheVariants.{TooManyLines, ShortTally, NoRoom}
+use Rattle.blocks.specs.Counts.{length_checks, began as table_began}
+use Rattle.blocks.specs.declared.refusal.Refusal.TheVariants.{NoRoom}
 use Rattle.choice.specs.declared.limits.Limits.{Limits}
 use Rattle.choice.specs.declared.refusal.Refusal.{Refusal}
 use Rattle.choice.specs.declared.refusal.Refusal.TheVariants.{TooMuchAsked, Table}
@@ -23,10 +23,7 @@ asks_too_much width limits = nat_lt 12 limits.most_bits || nat_lt width limits.m
 abbrev pub choice_checks : {Header Rule Row : Type 0} → Meaning Header Rule Row → List (Line Row) → Limits → (tally room : ℕ) → List (Bool × Refusal)
 choice_checks k lines limits tally room =
     (asks_too_much k.width limits, TooMuchAsked)
-    ∷ (nat_lt 16384 (length lines), Table TooManyLines)
-    ∷ (nat_lt tally (2 ^ limits.most_bits), Table ShortTally)
-    ∷ (nat_lt room (table_size k (rules_of k lines) []), Table NoRoom)
-    ∷ []
+    ∷ map (λ check. (check.0, Table check.1)) (length_checks (length lines) (2 ^ limits.most_bits) tally ++ ((nat_lt room (table_size k (rules_of k lines) []), NoRoom) ∷ []))
 
 abbrev pub allowed : {Header Rule Row : Type 0} → Meaning Header Rule Row → List (Line Row) → Limits → (tally room : ℕ) → Result (Unit {0}) Refusal
 allowed k lines limits tally room = checked (choice_checks k lines limits tally room) tt

@@ -6,14 +6,14 @@
 --     cost_in               what the judge says of its block sizes
 --     IsChoice              a choice as it is told is the one reached
 --     IsOnlyChoice          and there is no other: neither its bits nor its tries nor how it ended could differ
---     EachReached           the bits of every choice are known to be a set that is reached
+--     EachReached           what is known of reached sets holds of every choice's bits
 --     UnbetteredIfSettled   a choice that settled can't be bettered by an exchange
 -- Assumes nothing.
-use Rattle.std.specs.Prelude.{◌≡◌, ℕ, ◌<◌, ◌≤◌, true, false, List, [], length, Option}
+use Rattle.std.specs.Prelude.{◌≡◌, ℕ, ◌<◌, ◌≤◌, true, List, [], length, Option}
 use Rattle.bits.specs.Sets.{rising, member}
 use Rattle.kinds.specs.Meaning.{Meaning}
 use Rattle.blocks.specs.Blocks.{sizes, Fits}
-use Rattle.choice.specs.Growth.{Grown}
+use Rattle.choice.specs.Growth.{is_free, Grown}
 use Rattle.choice.specs.Evolution.{exchanged, Evolved}
 use Rattle.choice.specs.declared.choice.Choice.{Choice}
 use Rattle.choice.specs.declared.choice.Outcome.{Outcome}
@@ -34,7 +34,7 @@ module _ (Fits : List ℕ → Type 0) where
       pub evolves : Evolved Fits cost width grown tries bits used outcome
 
     abbrev pub Unbettered : List ℕ → Type 0
-    Unbettered bits = (out b : ℕ) → member out bits ≡ true → b < width → member b bits ≡ false → Fits (exchanged bits out b) → cost bits ≤ cost (exchanged bits out b)
+    Unbettered bits = (out b : ℕ) → member out bits ≡ true → b < width → is_free bits b ≡ true → Fits (exchanged bits out b) → cost bits ≤ cost (exchanged bits out b)
 
 module _ {Header Rule Row : Type 0} (k : Meaning Header Rule Row) (rules : List (Option Rule)) where
   abbrev pub FitsIn : ℕ → List ℕ → Type 0

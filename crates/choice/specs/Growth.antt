@@ -23,7 +23,7 @@ module _ (Fits : List ℕ → Type 0) where
       pub least : (c : ℕ) → Addable width bits c → cost (with_bit b bits) ≤ cost (with_bit c bits)
       pub lowest : (c : ℕ) → Addable width bits c → cost (with_bit c bits) ≡ cost (with_bit b bits) → b ≤ c
 
-    -- below so many bits; it ends there, where no table fits, or where the best bit gains nothing
+    -- it ends at so many bits, where no bit may be added, or where the best one gains nothing
     pub data Grown (width most : ℕ) : List ℕ → List ℕ → Type 0 where
       full : {bits : List ℕ} → most ≤ length bits → Grown width most bits bits
       stuck : {bits : List ℕ} → length bits < most → ((b : ℕ) → Addable width bits b → ⊥) → Grown width most bits bits

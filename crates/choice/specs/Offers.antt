@@ -1,4 +1,4 @@
--- A set of bits with its cost, as the search for a choice handles it.
+-- A set of bits with its cost, as the search for a choice handles it. No public contract names these words.
 --     offer_of     a set with its cost, or none where its table does not fit
 --     cheaper_of   the cheaper of two, the first among equals
 --     Leads        it is made by the best bit

@@ -1,9 +1,10 @@
--- Going through sets one by one, a try for each, until one is better or the tries are spent.
---     after_try   after a try: a cheaper set is taken, else it goes on
---     try_of      one try, where one is left
---     tries_of    tries of these sets, one by one
+-- Going through sets one by one, a try for each, until one is better or the tries are spent. No public contract names these words.
+--     going_on       what follows where it goes on
+--     after_try      after a try: a cheaper set is taken, else it goes on
+--     try_of         one try, where one is left
+--     tries_of       tries of these sets, one by one
 --     exchange_try   the try of an exchange, if the bit in is not chosen
--- No public contract names these words. Assumes nothing.
+-- Assumes nothing.
 use Rattle.std.specs.Prelude.{ℕ, ◌-◌, ◌==◌, List, [], ◌∷◌, Some, None, Option, if◌then◌else◌, nat_lt}
 use Rattle.std.specs.declared.ops.ControlFlow.{ControlFlow}
 use Rattle.std.specs.declared.ops.ControlFlow.TheVariants.{Continue, Break}
@@ -13,7 +14,6 @@ use Rattle.choice.specs.declared.search.Offer.{Offer}
 use Rattle.choice.specs.declared.evolve.Ended.{Ended}
 use Rattle.choice.specs.declared.evolve.Ended.TheVariants.{Taken, Spent}
 
--- what follows where it goes on
 abbrev pub going_on : ControlFlow Ended ℕ → (ℕ → ControlFlow Ended ℕ) → ControlFlow Ended ℕ
 going_on (Continue left) next = next left
 going_on (Break ended) next = Break ended

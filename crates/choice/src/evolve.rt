@@ -122,9 +122,9 @@ impl<R, J: Judge> Search<'_, R, J> {
         let mut left = tries;
         loop {
             match self.try_exchanges::<K>(tally, &present, left) {
-                ControlFlow::Break(Ended::Taken(next, now)) => {
+                ControlFlow::Break(Ended::Taken(next, rest)) => {
                     present = next;
-                    left = now;
+                    left = rest;
                 }
                 ControlFlow::Break(Ended::Spent) => {
                     return Choice {
@@ -133,10 +133,10 @@ impl<R, J: Judge> Search<'_, R, J> {
                         outcome: Outcome::Stopped,
                     };
                 }
-                ControlFlow::Continue(now) => {
+                ControlFlow::Continue(rest) => {
                     return Choice {
                         bits: present.bits,
-                        tries: tries - now,
+                        tries: tries - rest,
                         outcome: Outcome::Settled,
                     };
                 }

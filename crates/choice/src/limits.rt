@@ -6,8 +6,8 @@ ghost use Rattle.choice.specs.declared.refusal.Refusal.TheVariants.{TooMuchAsked
 use super::refusal::Refusal;
 use kinds::Kind;
 
-// The most bits and the most tries.
-#[derive(Clone, Copy, Debug, PartialEq, Eq)]
+// The most bits and the most tries. No `==`: nothing compares limits.
+#[derive(Clone, Copy, Debug)]
 pub struct Limits {
     pub most_bits: usize,
     pub most_tries: u32,
@@ -19,7 +19,7 @@ const MOST_BITS: usize = 12;
 const MOST_TRIES: u32 = 1_000_000;
 
 impl Limits {
-    // Whether no more is asked than may be, for a kind of header.
+    // Refuses more bits or more tries than may be asked for a kind of header.
     pub(crate) fn check<K: Kind>(&self) -> Result<(), Refusal>
         ensures { result ≡ (if asks_too_much K.meaning.width self.now then Err TooMuchAsked else Ok tt) }
     {

@@ -14,7 +14,15 @@ pub returns-clause-only : goal.returns-clause-only
 returns-clause-only g c = only_choice g.K.Kind.meaning (rules_of g.K.Kind.meaning c.args.lines.now) c.args.room (g.J.Judge.cost c.args.judge.now) c.args.limits c.evolve.result (search rules)
 
 pub returns-clause-reached : goal.returns-clause-reached
-returns-clause-reached g c = each_reached g.K.Kind.meaning (rules_of g.K.Kind.meaning c.args.lines.now) c.args.room (g.J.Judge.cost c.args.judge.now) (offer_fits g.K.Kind.meaning (rules_of g.K.Kind.meaning c.args.lines.now) c.args.room (g.J.Judge.cost c.args.judge.now) [] c.in_ok-none.none c.offer.result c.in_ok-none.ensures.ok_part (search rules))
+returns-clause-reached g c =
+    each_reached g.K.Kind.meaning (rules_of g.K.Kind.meaning c.args.lines.now) c.args.room (g.J.Judge.cost c.args.judge.now)
+    (offer_fits g.K.Kind.meaning (rules_of g.K.Kind.meaning c.args.lines.now) c.args.room (g.J.Judge.cost c.args.judge.now) [] c.in_ok-none.none c.offer.result c.in_ok-none.ensures.ok_part (search rules))
+    c.args.limits c.evolve.result (search rules)
+
+pub returns-clause-each : goal.returns-clause-each
+returns-clause-each g c =
+    each_reached g.K.Kind.meaning (rules_of g.K.Kind.meaning c.args.lines.now) c.args.room (g.J.Judge.cost c.args.judge.now)
+    (offer_fits g.K.Kind.meaning (rules_of g.K.Kind.meaning c.args.lines.now) c.args.room (g.J.Judge.cost c.args.judge.now) [] c.in_ok-none.none c.offer.result c.in_ok-none.ensures.ok_part (search rules))
 
 pub returns-clause-tries : goal.returns-clause-tries
 returns-clause-tries g c = few_tries g.K.Kind.meaning (rules_of g.K.Kind.meaning c.args.lines.now) c.args.room (g.J.Judge.cost c.args.judge.now) c.args.limits c.evolve.result (search rules)

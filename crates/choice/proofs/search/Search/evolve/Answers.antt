@@ -4,11 +4,11 @@ use Rattle.choice.proofs.search.Search.evolve.Goals as goal
 
 pub loop-next-smaller : goal.loop-next-smaller
 loop-next-smaller g c =
-    (takes g.K.Kind.meaning g.J.Judge.cost c.args.self.now c.args.start.bits c.args.tries c.loop-next.present c.loop-next.left c.loop-next.invariant.way c.loop-next.invariant.costed c.in-Break-Taken.next c.in-Break-Taken.now (rw c.in-Break-Taken.field-0-is at c.in-Break-Taken.ensures.answer)).fewer
+    (takes g.K.Kind.meaning g.J.Judge.cost c.args.self.now c.args.start.bits c.args.tries c.loop-next.present c.loop-next.left c.loop-next.invariant.way c.loop-next.invariant.costed c.in-Break-Taken.next c.in-Break-Taken.rest (rw c.in-Break-Taken.field-0-is at c.in-Break-Taken.ensures.answer)).fewer
 
 pub loop-next-preserved : goal.loop-next-preserved
 loop-next-preserved g c =
-    let turn = takes g.K.Kind.meaning g.J.Judge.cost c.args.self.now c.args.start.bits c.args.tries c.loop-next.present c.loop-next.left c.loop-next.invariant.way c.loop-next.invariant.costed c.in-Break-Taken.next c.in-Break-Taken.now (rw c.in-Break-Taken.field-0-is at c.in-Break-Taken.ensures.answer) in
+    let turn = takes g.K.Kind.meaning g.J.Judge.cost c.args.self.now c.args.start.bits c.args.tries c.loop-next.present c.loop-next.left c.loop-next.invariant.way c.loop-next.invariant.costed c.in-Break-Taken.next c.in-Break-Taken.rest (rw c.in-Break-Taken.field-0-is at c.in-Break-Taken.ensures.answer) in
     record {
       way = turn.way;
       costed = turn.costed;
@@ -17,4 +17,4 @@ loop-next-preserved g c =
     }
 
 pub overflow_sub-result : goal.overflow_sub-result
-overflow_sub-result g c = few_left g.K.Kind.meaning g.J.Judge.cost c.args.self.now c.args.start.bits c.args.tries c.loop-next.present c.loop-next.left c.loop-next.invariant.way c.loop-next.invariant.costed c.in-Continue.now c.in-Continue.ensures.answer
+overflow_sub-result g c = few_left g.K.Kind.meaning g.J.Judge.cost c.args.self.now c.args.start.bits c.args.tries c.loop-next.present c.loop-next.left c.loop-next.invariant.way c.loop-next.invariant.costed c.in-Continue.rest c.in-Continue.ensures.answer
