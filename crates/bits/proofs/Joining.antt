@@ -1,11 +1,11 @@
 -- A bit joins a rising list: each place keeps the lesser of two numbers and hands on the larger.
-use Rattle.std.proofs.Common.{◌≡◌, ℕ, zero, suc, ◌+◌, ◌<◌, ◌≤◌, min, max, true, false, List, [], ◌∷◌, length, get_or, take, refl, sym, ap, ◌∙◌, add-one, arith}
+use Rattle.std.proofs.Common.{◌≡◌, ℕ, zero, suc, ◌+◌, ◌<◌, ◌≤◌, min, max, true, List, [], ◌∷◌, length, get_or, take, refl, sym, ap, ◌∙◌, add-one, arith}
 use Rattle.std.proofs.lemmas.Bool.Decides.{nat_tests}
 use Rattle.bits.specs.Chosen.{joins}
 use Rattle.bits.specs.declared.set.Bits.TheInside.{Inside}
 use Rattle.bits.specs.Places.{places, bits_in, Sound, IsSound}
 use Rattle.bits.specs.PlacesLaw.{length-used}
-use Rattle.bits.specs.Sets.{below_first, rising, member, with_bit}
+use Rattle.bits.specs.Sets.{rising, with_bit}
 use Rattle.bits.proofs.Places.{below, are_set}
 use Rattle.bits.proofs.Rising.{rising-with_bit}
 

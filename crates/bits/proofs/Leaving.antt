@@ -7,7 +7,7 @@ use Rattle.bits.specs.Chosen.{joins}
 use Rattle.bits.specs.declared.set.Bits.TheInside.{Inside}
 use Rattle.bits.specs.Places.{places, bits_in, Sound, IsSound}
 use Rattle.bits.specs.PlacesLaw.{length-used}
-use Rattle.bits.specs.Sets.{below_first, rising, member, without_bit}
+use Rattle.bits.specs.Sets.{rising, member, without_bit}
 use Rattle.bits.proofs.Places.{below, are_set}
 use Rattle.bits.proofs.Rising.{rising_without}
 use Rattle.bits.proofs.Members.{member_at, member_some, member_behind, member_last, member_without}

@@ -3,4 +3,4 @@ pub mod Rising
 mod Joining
 mod Leaving
 mod Places
-pub mod Facts
+pub mod Lengths

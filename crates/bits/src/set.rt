@@ -1,8 +1,7 @@
 // A set of bits: its type, what it tells, and the sets that one more bit or an exchange gives.
 ghost use Rattle.std.specs.Prelude.{Some, None, IfSome, ◌≡◌, ℕ, ◌+◌, ◌^◌, ◌<◌, ◌≤◌, true, not, ◌&&◌, ◌||◌, ◌==◌, [], length, if◌then◌else◌, nat_lt, slice_index, slice_index_or};
-ghost use Rattle.std.specs.List.{All};
 ghost use Rattle.std.specs.Iterator.{YieldsFirst, item_count};
-ghost use Rattle.bits.specs.Sets.{rising, member, with_bit, without_bit};
+ghost use Rattle.bits.specs.Sets.{member, with_bit, without_bit};
 ghost use Rattle.bits.specs.Chosen.{IsBits, joins};
 
 use std::marker::Model;
@@ -137,7 +136,7 @@ impl Bits {
     }
 
     // The set with one bit more, or none where it is full, has the bit, or the bit is 1,024 or above.
-    #[tactic(auto, using(crate::proofs::Members::member_with, crate::proofs::Facts::length_with))]
+    #[tactic(auto, using(crate::proofs::Members::member_with, crate::proofs::Lengths::length_with))]
     pub fn with(&self, bit: usize) -> Option<Bits>
         ensures set { result ≡ (if nat_lt (length self.now) 12 && joins bit self.now then Some (with_bit bit self.now) else None) }
         ensures members { IfSome result (λ set. (b : ℕ) → member b set ≡ (b == bit || member b self.now)) }
@@ -152,7 +151,7 @@ impl Bits {
     }
 
     // The set with one bit exchanged for another, or none where the one is not in it or the other may not join.
-    #[tactic(auto, using(crate::proofs::Leaving::joins_without, crate::proofs::Members::member_with, crate::proofs::Facts::length_with))]
+    #[tactic(auto, using(crate::proofs::Leaving::joins_without, crate::proofs::Members::member_with, crate::proofs::Lengths::length_with))]
     pub fn exchanged(&self, out: usize, joining: usize) -> Option<Bits>
         ensures set { result ≡ (if member out self.now && joins joining self.now then Some (with_bit joining (without_bit out self.now)) else None) }
         ensures members { IfSome result (λ set. (b : ℕ) → member b set ≡ (b == joining || not (b == out) && member b self.now)) }

@@ -3,7 +3,7 @@ use Rattle.std.proofs.Common.{◌≡◌, ℕ, ◌+◌, ◌^◌, ◌<◌, ◌≤�
 use Rattle.std.proofs.Math.Pow.{pow_mono}
 use Rattle.std.proofs.lemmas.Bool.{cases_lt, cases_Bool, lt-ltb, le-ltb}
 use Rattle.std.proofs.lemmas.Bool.Decides.{nat_tests}
-use Rattle.bits.proofs.Facts.{length_with}
+use Rattle.bits.proofs.Lengths.{length_with}
 use Rattle.bits.specs.Sets.{with_bit}
 use Rattle.kinds.specs.Meaning.{Meaning}
 use Rattle.blocks.specs.Blocks.{table_size}

@@ -4,7 +4,7 @@ use Rattle.std.proofs.lemmas.Bool.{cases_lt, cases_eq}
 use Rattle.std.proofs.lemmas.Bool.Decides.{nat_tests}
 use Rattle.std.proofs.lemmas.List.{get_or_default}
 use Rattle.bits.specs.Sets.{member, with_bit, without_bit}
-use Rattle.bits.proofs.Facts.{length_with, length_without}
+use Rattle.bits.proofs.Lengths.{length_with, length_without}
 use Rattle.bits.proofs.Members.{member_with, member_left, member_without}
 use Rattle.bits.proofs.Rising.{rising-with_bit, rising_without}
 use Rattle.choice.specs.Growth.{is_free, Addable, Grown, full, stuck, no_gain, grow}

@@ -55,7 +55,7 @@ fn counts_what_does_not_fit(rt: HostRuntime) {
 }
 
 #[test]
-fn takes_twelve_bits_at_most(rt: HostRuntime) {
+fn may_be_asked_for_twelve_bits(rt: HostRuntime) {
     let mut tally = [0u32; 4096];
     let mut limits = Limits {
         most_bits: 12,

@@ -3,7 +3,7 @@ use super::narrow::{Narrow, Pair};
 use super::told::{Told, told};
 use choice::{Limits, Outcome, Refusal};
 use judges::Largest;
-use kinds::{FaultCode, Line};
+use kinds::Line;
 
 // A line that matches one header.
 fn line(first: bool, second: bool) -> Line<Pair> {
@@ -84,12 +84,4 @@ fn refuses_in_order(rt: HostRuntime) {
         choose(&many[..4], 6, (0, 9), &mut tally).is_ok(),
         "exact room"
     );
-}
-
-#[test]
-fn tells_numbers(rt: HostRuntime) {
-    let asked = FaultCode::from(Refusal::TooMuchAsked);
-    assert_eq!(rt; (asked.number, asked.layer, asked.place), (12, 2, 0));
-    let room = FaultCode::from(Refusal::Table(blocks::Refusal::NoRoom));
-    assert_eq!(rt; (room.number, room.layer, room.place), (13, 2, 0));
 }

@@ -3,7 +3,7 @@ ghost use Rattle.std.specs.Prelude.{◌≡◌, ◌+◌, ◌^◌, ◌<◌, ◌≤
 ghost use Rattle.std.specs.List.{flat_map};
 ghost use Rattle.kinds.specs.Checks.{checked};
 ghost use Rattle.kinds.specs.Lines.{rules_of};
-ghost use Rattle.blocks.specs.Blocks.{table_size, Fits, block, blocks as all_blocks, sizes as all_sizes};
+ghost use Rattle.blocks.specs.Blocks.{Fits, block, blocks as all_blocks, sizes as all_sizes};
 ghost use Rattle.blocks.specs.Counts.{table_checks, began};
 ghost use Rattle.blocks.specs.Plans.{rules_in};
 ghost use Rattle.layout.specs.Layout.{starts, laid};
