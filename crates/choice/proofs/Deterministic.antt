@@ -2,7 +2,7 @@
 use Rattle.std.proofs.Common.{◌≡◌, ℕ, ◌+◌, ◌-◌, List, refl, sym, ap, subst, ⊎_elim, arith}
 use Rattle.std.proofs.lemmas.Bool.{cases_order}
 use Rattle.choice.specs.Growth.{Best, Grown, full, stuck, no_gain, grow}
-use Rattle.choice.specs.Evolution.{exchange_at, Better, NoneBetter, Evolved, settled, stopped, taken}
+use Rattle.choice.specs.Evolution.{exchange_at, FirstBetter, Evolved, settled, stopped, taken}
 use Rattle.choice.specs.Choice.{Chosen}
 use Rattle.choice.specs.declared.choice.Outcome.{Outcome}
 use Rattle.bits.specs.Sets.{with_bit}
@@ -19,35 +19,35 @@ module _ (Fits : List ℕ → Type 0) (cost : List ℕ → ℕ) (width : ℕ) wh
   grown_one most (full f) (full g) = refl
   grown_one most (full f) (stuck g _) = absurd (omega arith)
   grown_one most (full f) (no_gain g _ _ _) = absurd (omega arith)
-  grown_one most (full f) (grow g _ _ _ _) = absurd (omega arith)
+  grown_one most (full f) (grow g _ _ _) = absurd (omega arith)
   grown_one most (stuck f none) (full g) = absurd (omega arith)
   grown_one most (stuck f none) (stuck g _) = refl
   grown_one most (stuck f none) (no_gain g _ _ _) = refl
-  grown_one most (stuck f none) (grow g c q _ _) = absurd (none c q.addable)
+  grown_one most (stuck f none) (grow g c q _) = absurd (none c q.best.addable)
   grown_one most (no_gain f b p gain) (full g) = absurd (omega arith)
   grown_one most (no_gain f b p gain) (stuck g _) = refl
   grown_one most (no_gain f b p gain) (no_gain g _ _ _) = refl
-  grown_one most (no_gain {bits} f b p gain) (grow g c q less _) = absurd (let e = ap (λ x. cost (with_bit x bits)) (best_one bits b c p q) in omega arith)
-  grown_one most (grow f b p less more) (full g) = absurd (omega arith)
-  grown_one most (grow f b p less more) (stuck g none) = absurd (none b p.addable)
-  grown_one most (grow {bits} f b p less more) (no_gain g c q gain) = absurd (let e = ap (λ x. cost (with_bit x bits)) (best_one bits b c p q) in omega arith)
-  grown_one most {other = o} (grow {bits} f b p less more) (grow g c q _ again) = grown_one most more (subst (λ x. Grown Fits cost width most (with_bit x bits) o) (best_one bits c b q p) again)
+  grown_one most (no_gain {bits} f b p gain) (grow g c q _) = absurd (let e = ap (λ x. cost (with_bit x bits)) (best_one bits b c p q.best) in omega (arith, q.less))
+  grown_one most (grow f b p more) (full g) = absurd (omega arith)
+  grown_one most (grow f b p more) (stuck g none) = absurd (none b p.best.addable)
+  grown_one most (grow {bits} f b p more) (no_gain g c q gain) = absurd (let e = ap (λ x. cost (with_bit x bits)) (best_one bits b c p.best q) in omega (arith, p.less))
+  grown_one most {other = o} (grow {bits} f b p more) (grow g c q again) = grown_one most more (subst (λ x. Grown Fits cost width most (with_bit x bits) o) (best_one bits c b q.best p.best) again)
 
   -- the first place that passes is one place
-  same_place : (bits : List ℕ) (i j : ℕ) → NoneBetter Fits cost width bits i → NoneBetter Fits cost width bits j → Better Fits cost bits (exchange_at width bits i) → Better Fits cost bits (exchange_at width bits j) → i ≡ j
-  same_place bits i j none_i none_j p q = ⊎_elim (λ e. e) (⊎_elim (λ lt. absurd (none_j i lt p)) (λ gt. absurd (none_i j gt q))) (cases_order i j)
+  same_place : (bits : List ℕ) (i j : ℕ) → FirstBetter Fits cost width bits i → FirstBetter Fits cost width bits j → i ≡ j
+  same_place bits i j p q = ⊎_elim (λ e. e) (⊎_elim (λ lt. absurd (q.before i lt p.better)) (λ gt. absurd (p.before j gt q.better))) (cases_order i j)
 
   pub evolved_one : {bits : List ℕ} {left : ℕ} {end other : List ℕ} {used more : ℕ} {s t : Outcome} → Evolved Fits cost width bits left end used s → Evolved Fits cost width bits left other more t → (other ≡ end) × (more ≡ used) × (t ≡ s)
   evolved_one (settled f none) (settled g _) = (refl, refl, refl)
   evolved_one (settled f none) (stopped g _) = absurd (omega arith)
-  evolved_one (settled f none) (taken place _ inside _ better _) = absurd (none place inside better)
+  evolved_one (settled f none) (taken place _ first _) = absurd (none place first.inside first.better)
   evolved_one (stopped f none) (settled g _) = absurd (omega arith)
   evolved_one (stopped f none) (stopped g _) = (refl, refl, refl)
-  evolved_one (stopped f none) (taken place early _ _ better _) = absurd (none place early better)
-  evolved_one (taken place _ inside _ better _) (settled g none) = absurd (none place inside better)
-  evolved_one (taken place early _ _ better _) (stopped g none) = absurd (none place early better)
-  evolved_one (taken {bits} {left = left} place _ _ none better on) (taken {end = o} {used = u} {outcome = t} place' _ _ none' better' on') =
-      let e : place' ≡ place = same_place bits place' place none' none better' better in
+  evolved_one (stopped f none) (taken place early first _) = absurd (none place early first.better)
+  evolved_one (taken place _ first _) (settled g none) = absurd (none place first.inside first.better)
+  evolved_one (taken place early first _) (stopped g none) = absurd (none place early first.better)
+  evolved_one (taken {bits} {left = left} place _ first on) (taken {end = o} {used = u} {outcome = t} place' _ first' on') =
+      let e : place' ≡ place = same_place bits place' place first' first in
       let r = evolved_one on (subst (λ x. Evolved Fits cost width (exchange_at width bits x) (left - (x + 1)) o u t) e on') in
       (r.0, omega (arith, r.1), r.2)
 

@@ -73,7 +73,7 @@ module _ {Header Rule Row Judge : Type 0} (k : Meaning Header Rule Row) (cost : 
             few = omega (arith, at.tries, so_far.few);
             ends = λ end used all outcome same more.
                 so_far.ends end (at.place + 1 + used) all outcome (omega (arith, same, at.tries))
-                (taken at.place (omega (arith, at.tries)) at.inside (λ place lt better. at.before place lt (better.0, omega (arith, better.1))) (at.takes.0, omega (arith, at.takes.1))
+                (taken at.place (omega (arith, at.tries)) (record { inside = at.inside; before = λ place lt better. at.before place lt (better.0, omega (arith, better.1)); better = (at.takes.0, omega (arith, at.takes.1)) })
                 (subst (λ set. Evolves k cost search set (left - (at.place + 1)) end used outcome) at.is
                 (subst (λ n. Evolves k cost search next.bits n end used outcome) rest more)));
           };

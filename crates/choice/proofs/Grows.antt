@@ -29,7 +29,7 @@ module _ {Header Rule Row : Type 0} (k : Meaning Header Rule Row) (rules : List 
 module _ (Fits : List ℕ → Type 0) (cost : List ℕ → ℕ) (width : ℕ) where
   module _ (most : ℕ) (present : Offer) (costed : present.cost ≡ cost present.bits) (few : length present.bits < most) where
     pub grows : (next : Offer) → IsBest Fits cost width present.bits (Some next) → next.cost < present.cost → (end : List ℕ) → Grown Fits cost width most next.bits end → Grown Fits cost width most present.bits end
-    grows next leads less end more = grow few leads.bit leads.best (omega (arith, costed, leads.costed, ap cost leads.set)) (subst (λ set. Grown Fits cost width most set end) leads.set more)
+    grows next leads less end more = grow few leads.bit (record { best = leads.best; less = omega (arith, costed, leads.costed, ap cost leads.set) }) (subst (λ set. Grown Fits cost width most set end) leads.set more)
 
     pub gains_nothing : (next : Offer) → IsBest Fits cost width present.bits (Some next) → present.cost ≤ next.cost → Grown Fits cost width most present.bits present.bits
     gains_nothing next leads le = no_gain few leads.bit leads.best (omega (arith, costed, leads.costed, ap cost leads.set))

@@ -9,7 +9,7 @@ use Rattle.bits.proofs.Members.{member_with, member_left, member_without}
 use Rattle.bits.proofs.Rising.{rising-with_bit, rising_without}
 use Rattle.choice.specs.Growth.{is_free, Addable, Grown, full, stuck, no_gain, grow}
 use Rattle.choice.specs.Evolution.{exchanged, exchanges, exchange_at, Evolved, settled, stopped, taken}
-use Rattle.choice.specs.Choice.{Chosen, Reached, Unbettered}
+use Rattle.choice.specs.Choice.{Chosen, Reached, GoesThrough, no_bit, one_more, one_exchanged, Unbettered}
 use Rattle.choice.specs.declared.choice.Outcome.{Outcome}
 use Rattle.choice.specs.declared.choice.Outcome.TheVariants.{Settled}
 use Rattle.choice.proofs.Exchanges.{all_exchanges, has_exchange}
@@ -48,19 +48,24 @@ module _ (Fits : List ℕ → Type 0) (cost : List ℕ → ℕ) (width most : �
   pub reached_at : (bits : List ℕ) (place : ℕ) → Reached Fits width most bits → place < length (exchanges width bits) → Fits (exchange_at width bits place) → Reached Fits width most (exchange_at width bits place)
   reached_at bits place r lt = all_exchanges width bits (λ set. Fits set → Reached Fits width most set) (λ out b. reached_exchanged bits out b r) place [] lt
 
-  grown_reached : {bits end : List ℕ} → Reached Fits width most bits → Grown Fits cost width most bits end → Reached Fits width most end
-  grown_reached r (full _) = r
-  grown_reached r (stuck _ _) = r
-  grown_reached r (no_gain _ _ _ _) = r
-  grown_reached r (grow {bits} few b p _ more) = grown_reached (reached_with bits b r few p.addable) more
+  pub each_reached : {bits : List ℕ} → Fits [] → GoesThrough Fits cost width most bits → Reached Fits width most bits
+  each_reached fits no_bit = reached_none fits
+  each_reached fits (one_more {bits} way few b gains) = reached_with bits b (each_reached fits way) few gains.best.addable
+  each_reached fits (one_exchanged {bits} way place first) = reached_at bits place (each_reached fits way) first.inside first.better.0
 
-  evolved_reached : {bits : List ℕ} {left : ℕ} {end : List ℕ} {used : ℕ} {outcome : Outcome} → Reached Fits width most bits → Evolved Fits cost width bits left end used outcome → Reached Fits width most end
-  evolved_reached r (settled _ _) = r
-  evolved_reached r (stopped _ _) = r
-  evolved_reached r (taken {bits} place _ lt _ better on) = evolved_reached (reached_at bits place r lt better.0) on
+  grown_goes : {bits end : List ℕ} → GoesThrough Fits cost width most bits → Grown Fits cost width most bits end → GoesThrough Fits cost width most end
+  grown_goes way (full _) = way
+  grown_goes way (stuck _ _) = way
+  grown_goes way (no_gain _ _ _ _) = way
+  grown_goes way (grow few b gains more) = grown_goes (one_more way few b gains) more
 
-  pub chosen_reached : (tries : ℕ) (end : List ℕ) (used : ℕ) (outcome : Outcome) → Fits [] → Chosen Fits cost width most tries end used outcome → Reached Fits width most end
-  chosen_reached tries end used outcome fits c = evolved_reached (grown_reached (reached_none fits) c.grows) c.evolves
+  evolved_goes : {bits : List ℕ} {left : ℕ} {end : List ℕ} {used : ℕ} {outcome : Outcome} → GoesThrough Fits cost width most bits → Evolved Fits cost width bits left end used outcome → GoesThrough Fits cost width most end
+  evolved_goes way (settled _ _) = way
+  evolved_goes way (stopped _ _) = way
+  evolved_goes way (taken place _ first on) = evolved_goes (one_exchanged way place first) on
+
+  pub chosen_goes : (tries : ℕ) (end : List ℕ) (used : ℕ) (outcome : Outcome) → Chosen Fits cost width most tries end used outcome → GoesThrough Fits cost width most end
+  chosen_goes tries end used outcome c = evolved_goes (grown_goes no_bit c.grows) c.evolves
 
 module _ (Fits : List ℕ → Type 0) (cost : List ℕ → ℕ) (width : ℕ) where
   -- a settled set is bettered by no exchange
@@ -70,12 +75,12 @@ module _ (Fits : List ℕ → Type 0) (cost : List ℕ → ℕ) (width : ℕ) wh
       let at : exchange_at width bits found.0 ≡ exchanged bits out b = get_or_default (exchanges width bits) found.0 [] (exchanged bits out b) found.1 ∙ found.2 in
       ⊎_elim (λ less. absurd (none found.0 found.1 (rw at (fits, less)))) (λ le. le) (cases_lt (cost (exchanged bits out b)) (cost bits))
   evolved_unbettered (stopped _ _) is out b has below new fits = absurd (grind (arith, is))
-  evolved_unbettered (taken _ _ _ _ _ on) is out b has below new fits = evolved_unbettered on is out b has below new fits
+  evolved_unbettered (taken _ _ _ on) is out b has below new fits = evolved_unbettered on is out b has below new fits
 
   evolved_few : {bits : List ℕ} {left : ℕ} {end : List ℕ} {used : ℕ} {outcome : Outcome} → Evolved Fits cost width bits left end used outcome → used ≤ left
   evolved_few (settled le _) = le
   evolved_few (stopped _ _) = omega arith
-  evolved_few (taken place lt _ _ _ on) = omega (arith, evolved_few on)
+  evolved_few (taken place lt _ on) = omega (arith, evolved_few on)
 
   pub chosen_unbettered : (most tries : ℕ) (end : List ℕ) (used : ℕ) (outcome : Outcome) → Chosen Fits cost width most tries end used outcome → outcome ≡ Settled → Unbettered Fits cost width end
   chosen_unbettered most tries end used outcome c = evolved_unbettered c.evolves

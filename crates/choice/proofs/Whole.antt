@@ -6,14 +6,14 @@ use Rattle.bits.proofs.Lengths.{length_with}
 use Rattle.kinds.specs.Meaning.{Meaning}
 use Rattle.blocks.specs.Blocks.{table_size}
 use Rattle.choice.specs.Growth.{Grown, full, stuck, no_gain, grow}
-use Rattle.choice.specs.Choice.{FitsIn, cost_in, IsChoice, Reached, Unbettered}
+use Rattle.choice.specs.Choice.{Reached, FitsIn, cost_in, IsChoice, Way, Unbettered}
 use Rattle.choice.specs.Offers.{offer_of}
 use Rattle.choice.specs.declared.choice.Choice.{Choice}
 use Rattle.choice.specs.declared.choice.Outcome.TheVariants.{Settled}
 use Rattle.choice.specs.declared.limits.Limits.{Limits}
 use Rattle.choice.specs.declared.search.Offer.{Offer}
 use Rattle.choice.proofs.Deterministic.{chosen_one}
-use Rattle.choice.proofs.Reached.{chosen_reached, chosen_unbettered, chosen_few}
+use Rattle.choice.proofs.Reached.{each_reached, chosen_goes, chosen_unbettered, chosen_few}
 
 module _ {Header Rule Row : Type 0} (k : Meaning Header Rule Row) (rules : List (Option Rule)) (room : ℕ) (judge : List ℕ → ℕ) where
   -- an offer is of a set whose table fits
@@ -29,8 +29,14 @@ module _ {Header Rule Row : Type 0} (k : Meaning Header Rule Row) (rules : List 
       let one = chosen_one (FitsIn k rules room) (cost_in k rules judge) k.width limits.most_bits limits.most_tries choice.bits other.bits choice.tries other.tries choice.outcome other.outcome is too in
       λ i. record { bits = one.0 i; tries = one.1 i; outcome = one.2 i }
 
-  pub each_reached : FitsIn k rules room [] → (asked : Limits) (other : Choice) → IsChoice k rules room judge asked other → Reached (FitsIn k rules room) k.width asked.most_bits other.bits
-  each_reached fits asked other = chosen_reached (FitsIn k rules room) (cost_in k rules judge) k.width asked.most_bits asked.most_tries other.bits other.tries other.outcome fits
+  pub way_reached : (limits : Limits) (choice : Choice) → FitsIn k rules room [] → IsChoice k rules room judge limits choice → Way k rules room judge limits.most_bits choice
+  way_reached limits choice fits is = record {
+    last = chosen_goes (FitsIn k rules room) (cost_in k rules judge) k.width limits.most_bits limits.most_tries choice.bits choice.tries choice.outcome is;
+    each = λ bits. each_reached (FitsIn k rules room) (cost_in k rules judge) k.width limits.most_bits fits;
+  }
+
+  pub bits_reached : (limits : Limits) (choice : Choice) → FitsIn k rules room [] → IsChoice k rules room judge limits choice → Reached (FitsIn k rules room) k.width limits.most_bits choice.bits
+  bits_reached limits choice fits is = let way = way_reached limits choice fits is in way.each choice.bits way.last
 
   pub few_tries : (limits : Limits) (choice : Choice) → IsChoice k rules room judge limits choice → choice.tries ≤ limits.most_tries
   few_tries limits choice = chosen_few (FitsIn k rules room) (cost_in k rules judge) k.width limits.most_bits limits.most_tries choice.bits choice.tries choice.outcome
@@ -43,7 +49,7 @@ grown_few : {Fits : List ℕ → Type 0} {cost : List ℕ → ℕ} {width most :
 grown_few few (full _) = few
 grown_few few (stuck _ _) = few
 grown_few few (no_gain _ _ _ _) = few
-grown_few few (grow {bits} less b _ _ more) = grown_few (omega (arith, length_with b bits)) more
+grown_few few (grow {bits} less b _ more) = grown_few (omega (arith, length_with b bits)) more
 
 pub grown_room : {Fits : List ℕ → Type 0} {cost : List ℕ → ℕ} {width most : ℕ} {bits end : List ℕ} (n : ℕ) → bits ≡ [] → Grown Fits cost width most bits end → 2 ^ most ≤ n → 2 ^ length end ≤ n
 grown_room n none grown room =

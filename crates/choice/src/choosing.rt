@@ -3,7 +3,7 @@ ghost use Rattle.std.specs.Prelude.{◌≤◌, ◌≡◌, IfOk, length, replicat
 ghost use Rattle.kinds.specs.Checks.{MadeOf};
 ghost use Rattle.kinds.specs.Lines.{rules_of};
 ghost use Rattle.choice.specs.Checks.{allowed, began};
-ghost use Rattle.choice.specs.Choice.{Reached, FitsIn, IsChoice, IsOnlyChoice, EachReached, UnbetteredIfSettled};
+ghost use Rattle.choice.specs.Choice.{Reached, FitsIn, IsChoice, IsOnlyChoice, Way, UnbetteredIfSettled};
 
 use super::choice::Choice;
 use super::limits::Limits;
@@ -25,7 +25,7 @@ pub fn choose<K: Kind, J: Judge>(
     ensures answer { MadeOf (λ _. IsChoice K.meaning (rules_of K.meaning lines.now) room (J.cost judge.now) limits) (allowed K.meaning lines.now limits (length tally.old) room) result }
     ensures only { IfOk result (IsOnlyChoice K.meaning (rules_of K.meaning lines.now) room (J.cost judge.now) limits) }
     ensures reached { IfOk result (λ choice. Reached (FitsIn K.meaning (rules_of K.meaning lines.now) room) K.meaning.width limits.most_bits choice.bits) }
-    ensures each { IfOk result (λ _. EachReached K.meaning (rules_of K.meaning lines.now) room (J.cost judge.now)) }
+    ensures way { IfOk result (Way K.meaning (rules_of K.meaning lines.now) room (J.cost judge.now) limits.most_bits) }
     ensures tries { IfOk result (λ choice. choice.tries ≤ limits.most_tries) }
     ensures unbettered { IfOk result (UnbetteredIfSettled K.meaning (rules_of K.meaning lines.now) room (J.cost judge.now)) }
     ensures tally { tally.new ≡ (if began result then replicate (length tally.old) 0 else tally.old) }

@@ -1,6 +1,6 @@
 use Rattle.std.proofs.Common.{rules, arith, ◌≡◌, ◌^◌, ◌≤◌, [], length}
 use Rattle.kinds.specs.Lines.{rules_of}
-use Rattle.choice.proofs.Whole.{offer_fits, only_choice, each_reached, few_tries, settled_unbettered, grown_room}
+use Rattle.choice.proofs.Whole.{offer_fits, only_choice, bits_reached, way_reached, few_tries, settled_unbettered, grown_room}
 use Rattle.choice.proofs.choosing.choose.Goals as goal
 
 pub evolve-requires-clause-room : goal.evolve-requires-clause-room
@@ -15,14 +15,15 @@ returns-clause-only g c = only_choice g.K.Kind.meaning (rules_of g.K.Kind.meanin
 
 pub returns-clause-reached : goal.returns-clause-reached
 returns-clause-reached g c =
-    each_reached g.K.Kind.meaning (rules_of g.K.Kind.meaning c.args.lines.now) c.args.room (g.J.Judge.cost c.args.judge.now)
+    bits_reached g.K.Kind.meaning (rules_of g.K.Kind.meaning c.args.lines.now) c.args.room (g.J.Judge.cost c.args.judge.now) c.args.limits c.evolve.result
     (offer_fits g.K.Kind.meaning (rules_of g.K.Kind.meaning c.args.lines.now) c.args.room (g.J.Judge.cost c.args.judge.now) [] c.in_ok-none.none c.offer.result c.in_ok-none.ensures.ok_part (search rules))
-    c.args.limits c.evolve.result (search rules)
+    (search rules)
 
-pub returns-clause-each : goal.returns-clause-each
-returns-clause-each g c =
-    each_reached g.K.Kind.meaning (rules_of g.K.Kind.meaning c.args.lines.now) c.args.room (g.J.Judge.cost c.args.judge.now)
+pub returns-clause-way : goal.returns-clause-way
+returns-clause-way g c =
+    way_reached g.K.Kind.meaning (rules_of g.K.Kind.meaning c.args.lines.now) c.args.room (g.J.Judge.cost c.args.judge.now) c.args.limits c.evolve.result
     (offer_fits g.K.Kind.meaning (rules_of g.K.Kind.meaning c.args.lines.now) c.args.room (g.J.Judge.cost c.args.judge.now) [] c.in_ok-none.none c.offer.result c.in_ok-none.ensures.ok_part (search rules))
+    (search rules)
 
 pub returns-clause-tries : goal.returns-clause-tries
 returns-clause-tries g c = few_tries g.K.Kind.meaning (rules_of g.K.Kind.meaning c.args.lines.now) c.args.room (g.J.Judge.cost c.args.judge.now) c.args.limits c.evolve.result (search rules)
