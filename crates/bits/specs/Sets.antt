@@ -4,6 +4,7 @@
 --     member        whether a bit is in a set
 --     with_bit      the set with one bit more, in its place
 --     without_bit   the set without one bit
+--     exchanged     the set with one bit out and another in
 -- Assumes nothing.
 use Rattle.std.specs.Prelude.{ℕ, Bool, true, false, if◌then◌else◌, ◌&&◌, List, [], ◌∷◌, ◌==◌, nat_lt}
 
@@ -31,3 +32,7 @@ with_bit b (c ∷ cs) = if nat_lt b c then b ∷ c ∷ cs else c ∷ with_bit b 
 abbrev pub without_bit : ℕ → List ℕ → List ℕ
 without_bit b [] = []
 without_bit b (c ∷ cs) = if b == c then cs else c ∷ without_bit b cs
+
+-- the set with one bit out and another in
+abbrev pub exchanged : List ℕ → ℕ → ℕ → List ℕ
+exchanged bits out b = with_bit b (without_bit out bits)

@@ -1,7 +1,7 @@
 // A set of bits: its type, what it tells, and the sets that one more bit or an exchange gives.
 ghost use Rattle.std.specs.Prelude.{Some, None, IfSome, ◌≡◌, ℕ, ◌+◌, ◌^◌, ◌<◌, ◌≤◌, true, not, ◌&&◌, ◌||◌, ◌==◌, [], length, if◌then◌else◌, nat_lt, slice_index, slice_index_or};
 ghost use Rattle.std.specs.Iterator.{YieldsFirst, item_count};
-ghost use Rattle.bits.specs.Sets.{member, with_bit, without_bit};
+ghost use Rattle.bits.specs.Sets.{member, with_bit, without_bit, exchanged};
 ghost use Rattle.bits.specs.Chosen.{IsBits, joins};
 
 use std::marker::Model;
@@ -151,9 +151,9 @@ impl Bits {
     }
 
     // The set with one bit exchanged for another, or none where the one is not in it or the other may not join.
-    #[tactic(auto, using(crate::proofs::Leaving::joins_without, crate::proofs::Members::member_with, crate::proofs::Lengths::length_with))]
+    #[tactic(auto, using(crate::proofs::Leaving::joins_without, crate::proofs::Members::member_with, crate::proofs::Lengths::length_exchanged))]
     pub fn exchanged(&self, out: usize, joining: usize) -> Option<Bits>
-        ensures set { result ≡ (if member out self.now && joins joining self.now then Some (with_bit joining (without_bit out self.now)) else None) }
+        ensures set { result ≡ (if member out self.now && joins joining self.now then Some (exchanged self.now out joining) else None) }
         ensures members { IfSome result (λ set. (b : ℕ) → member b set ≡ (b == joining || not (b == out) && member b self.now)) }
         ensures len { IfSome result (λ set. length set ≡ length self.now) }
         ensures bits { IfSome result IsBits }

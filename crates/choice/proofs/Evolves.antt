@@ -2,8 +2,7 @@
 use Rattle.std.proofs.Common.{◌≡◌, ℕ, ◌+◌, ◌-◌, ◌<◌, ◌≤◌, List, [], length, ap, ◌∙◌, subst, arith}
 use Rattle.std.specs.declared.ops.ControlFlow.{ControlFlow}
 use Rattle.std.specs.declared.ops.ControlFlow.TheVariants.{Continue, Break}
-use Rattle.bits.specs.Sets.{without_bit}
-use Rattle.bits.proofs.Lengths.{length_with, length_without}
+use Rattle.bits.proofs.Lengths.{length_exchanged}
 use Rattle.kinds.specs.Meaning.{Meaning}
 use Rattle.kinds.specs.Lines.{rules_of}
 use Rattle.choice.specs.Evolution.{exchanges, exchange_at, Evolved, settled, stopped, taken}
@@ -19,7 +18,7 @@ use Rattle.choice.proofs.Exchanges.{all_exchanges}
 use Rattle.choice.proofs.Rounds.{EndsBy, ends}
 
 length_exchange : (width : ℕ) (bits : List ℕ) (place : ℕ) → place < length (exchanges width bits) → length (exchange_at width bits place) ≡ length bits
-length_exchange width bits place = all_exchanges width bits (λ set. length set ≡ length bits) (λ out b has below free. omega (arith, length_with b (without_bit out bits), length_without out bits has)) place []
+length_exchange width bits place = all_exchanges width bits (λ set. length set ≡ length bits) (λ out b has below free. length_exchanged bits out b has) place []
 
 -- an equal count of tries
 pub as_used : {Fits : List ℕ → Type 0} {cost : List ℕ → ℕ} {width : ℕ} {bits : List ℕ} {left : ℕ} {end : List ℕ} {used : ℕ} {outcome : Outcome} (all : ℕ) → used ≡ all → Evolved Fits cost width bits left end used outcome → Evolved Fits cost width bits left end all outcome

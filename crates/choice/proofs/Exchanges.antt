@@ -1,13 +1,15 @@
 -- Which sets the exchanges of a set are: each chosen bit for each unchosen one, and no others.
 use Rattle.std.proofs.Common.{◌≡◌, ℕ, zero, suc, ◌<◌, Bool, true, List, [], ◌∷◌, map, filter, get_or, refl, ap, ◌∙◌, inl, inr, arith}
 use Rattle.std.specs.List.{All, Contains, flat_map, range_with_len}
-use Rattle.std.proofs.lemmas.Bool.{cases_Bool, cases_eq, eq-eqb}
+use Rattle.std.proofs.lemmas.Bool.{cases_Bool, cases_eq}
 use Rattle.std.proofs.lemmas.Bool.Decides.{nat_tests}
 use Rattle.std.proofs.lemmas.List.FromFn.{length-range_with_len, get_or-range_with_len}
 use Rattle.std.proofs.lemmas.List.Elements.{All-nil, All-append, All-map, All-filter, filter_passes, Contains-append_left, Contains-append_right}
-use Rattle.bits.specs.Sets.{member}
+use Rattle.std.proofs.lemmas.List.{get_or_default}
+use Rattle.bits.proofs.Members.{member_at}
+use Rattle.bits.specs.Sets.{member, exchanged}
 use Rattle.choice.specs.Growth.{is_free}
-use Rattle.choice.specs.Evolution.{unchosen, exchanged, exchanges}
+use Rattle.choice.specs.Evolution.{unchosen, exchanges}
 
 Contains_first : {X : Type 0} (x : X) (xs : List X) → Contains (x ∷ xs) x
 Contains_first x xs = (0, omega arith, refl)
@@ -37,9 +39,7 @@ All_flat_map P f [] all = All-nil P
 All_flat_map P f (x ∷ xs) all = All-append P (f x) (flat_map f xs) (all x (Contains_first x xs)) (All_flat_map P f xs (λ y has. all y (Contains_later x y xs has)))
 
 member_contains : (b : ℕ) (l : List ℕ) → Contains l b → member b l ≡ true
-member_contains b [] has = absurd (omega (arith, has.1))
-member_contains b (c ∷ cs) (zero, lt, e) = rw (eq-eqb b c (omega arith)) refl
-member_contains b (c ∷ cs) (suc k, lt, e) = let rest = member_contains b cs (k, omega arith, e) in grind (arith, nat_tests)
+member_contains b l has = member_at b l has.0 has.1 (get_or_default l has.0 0 b has.1 ∙ has.2)
 
 contains_member : (b : ℕ) (l : List ℕ) → member b l ≡ true → Contains l b
 contains_member b [] is = absurd (grind (arith, nat_tests))

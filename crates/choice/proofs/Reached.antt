@@ -3,13 +3,13 @@ use Rattle.std.proofs.Common.{◌≡◌, ℕ, ◌<◌, ◌≤◌, true, false, L
 use Rattle.std.proofs.lemmas.Bool.{cases_lt, cases_eq}
 use Rattle.std.proofs.lemmas.Bool.Decides.{nat_tests}
 use Rattle.std.proofs.lemmas.List.{get_or_default}
-use Rattle.bits.specs.Sets.{member, with_bit, without_bit}
-use Rattle.bits.proofs.Lengths.{length_with, length_without}
+use Rattle.bits.specs.Sets.{member, with_bit, without_bit, exchanged}
+use Rattle.bits.proofs.Lengths.{length_with, length_exchanged}
 use Rattle.bits.proofs.Members.{member_with, member_left, member_without}
 use Rattle.bits.proofs.Rising.{rising-with_bit, rising_without}
 use Rattle.choice.specs.Growth.{is_free, Addable, Grown, full, stuck, no_gain, grow}
-use Rattle.choice.specs.Evolution.{exchanged, exchanges, exchange_at, Evolved, settled, stopped, taken}
-use Rattle.choice.specs.Choice.{Chosen, Reached, GoesThrough, no_bit, one_more, one_exchanged, Unbettered}
+use Rattle.choice.specs.Evolution.{exchanges, exchange_at, Evolved, settled, stopped, taken}
+use Rattle.choice.specs.Choice.{Reached, GoesThrough, no_bit, one_more, one_exchanged, Unbettered}
 use Rattle.choice.specs.declared.choice.Outcome.{Outcome}
 use Rattle.choice.specs.declared.choice.Outcome.TheVariants.{Settled}
 use Rattle.choice.proofs.Exchanges.{all_exchanges, has_exchange}
@@ -36,7 +36,7 @@ module _ (Fits : List ℕ → Type 0) (cost : List ℕ → ℕ) (width most : �
       let new : member b bits ≡ false = grind (arith, nat_tests) in
       let still : member b (without_bit out bits) ≡ false = member_without b out bits new in
       record {
-        few = omega (arith, length_with b (without_bit out bits), length_without out bits has, r.few);
+        few = omega (arith, length_exchanged bits out b has, r.few);
         rises = rising-with_bit b (without_bit out bits) (rising_without out bits r.rises) still;
         below = λ c is. elim (cases_eq c b) [
           | inl p ↦ omega arith
@@ -53,23 +53,20 @@ module _ (Fits : List ℕ → Type 0) (cost : List ℕ → ℕ) (width most : �
   each_reached fits (one_more {bits} way few b gains) = reached_with bits b (each_reached fits way) few gains.best.addable
   each_reached fits (one_exchanged {bits} way place first) = reached_at bits place (each_reached fits way) first.inside first.better.0
 
-  grown_goes : {bits end : List ℕ} → GoesThrough Fits cost width most bits → Grown Fits cost width most bits end → GoesThrough Fits cost width most end
+  pub grown_goes : {bits end : List ℕ} → GoesThrough Fits cost width most bits → Grown Fits cost width most bits end → GoesThrough Fits cost width most end
   grown_goes way (full _) = way
   grown_goes way (stuck _ _) = way
   grown_goes way (no_gain _ _ _ _) = way
   grown_goes way (grow few b gains more) = grown_goes (one_more way few b gains) more
 
-  evolved_goes : {bits : List ℕ} {left : ℕ} {end : List ℕ} {used : ℕ} {outcome : Outcome} → GoesThrough Fits cost width most bits → Evolved Fits cost width bits left end used outcome → GoesThrough Fits cost width most end
+  pub evolved_goes : {bits : List ℕ} {left : ℕ} {end : List ℕ} {used : ℕ} {outcome : Outcome} → GoesThrough Fits cost width most bits → Evolved Fits cost width bits left end used outcome → GoesThrough Fits cost width most end
   evolved_goes way (settled _ _) = way
   evolved_goes way (stopped _ _) = way
   evolved_goes way (taken place _ first on) = evolved_goes (one_exchanged way place first) on
 
-  pub chosen_goes : (tries : ℕ) (end : List ℕ) (used : ℕ) (outcome : Outcome) → Chosen Fits cost width most tries end used outcome → GoesThrough Fits cost width most end
-  chosen_goes tries end used outcome c = evolved_goes (grown_goes no_bit c.grows) c.evolves
-
 module _ (Fits : List ℕ → Type 0) (cost : List ℕ → ℕ) (width : ℕ) where
   -- a settled set is bettered by no exchange
-  evolved_unbettered : {bits : List ℕ} {left : ℕ} {end : List ℕ} {used : ℕ} {outcome : Outcome} → Evolved Fits cost width bits left end used outcome → outcome ≡ Settled → Unbettered Fits cost width end
+  pub evolved_unbettered : {bits : List ℕ} {left : ℕ} {end : List ℕ} {used : ℕ} {outcome : Outcome} → Evolved Fits cost width bits left end used outcome → outcome ≡ Settled → Unbettered Fits cost width end
   evolved_unbettered (settled {bits} _ none) is out b has below new fits =
       let found = has_exchange width bits out b has below new in
       let at : exchange_at width bits found.0 ≡ exchanged bits out b = get_or_default (exchanges width bits) found.0 [] (exchanged bits out b) found.1 ∙ found.2 in
@@ -77,13 +74,7 @@ module _ (Fits : List ℕ → Type 0) (cost : List ℕ → ℕ) (width : ℕ) wh
   evolved_unbettered (stopped _ _) is out b has below new fits = absurd (grind (arith, is))
   evolved_unbettered (taken _ _ _ on) is out b has below new fits = evolved_unbettered on is out b has below new fits
 
-  evolved_few : {bits : List ℕ} {left : ℕ} {end : List ℕ} {used : ℕ} {outcome : Outcome} → Evolved Fits cost width bits left end used outcome → used ≤ left
+  pub evolved_few : {bits : List ℕ} {left : ℕ} {end : List ℕ} {used : ℕ} {outcome : Outcome} → Evolved Fits cost width bits left end used outcome → used ≤ left
   evolved_few (settled le _) = le
   evolved_few (stopped _ _) = omega arith
   evolved_few (taken place lt _ on) = omega (arith, evolved_few on)
-
-  pub chosen_unbettered : (most tries : ℕ) (end : List ℕ) (used : ℕ) (outcome : Outcome) → Chosen Fits cost width most tries end used outcome → outcome ≡ Settled → Unbettered Fits cost width end
-  chosen_unbettered most tries end used outcome c = evolved_unbettered c.evolves
-
-  pub chosen_few : (most tries : ℕ) (end : List ℕ) (used : ℕ) (outcome : Outcome) → Chosen Fits cost width most tries end used outcome → used ≤ tries
-  chosen_few most tries end used outcome c = evolved_few c.evolves

@@ -5,9 +5,9 @@ use Rattle.std.specs.declared.ops.ControlFlow.{ControlFlow}
 use Rattle.std.specs.declared.ops.ControlFlow.TheVariants.{Continue, Break}
 use Rattle.std.proofs.lemmas.Bool.{cases_Bool}
 use Rattle.std.proofs.lemmas.Bool.Decides.{nat_tests}
-use Rattle.bits.specs.Sets.{member}
+use Rattle.bits.specs.Sets.{member, exchanged}
 use Rattle.choice.specs.Growth.{is_free}
-use Rattle.choice.specs.Evolution.{unchosen, exchanged}
+use Rattle.choice.specs.Evolution.{unchosen}
 use Rattle.choice.specs.Tries.{going_on, try_of, tries_of, exchange_try}
 use Rattle.choice.specs.declared.search.Offer.{Offer}
 use Rattle.choice.specs.declared.evolve.Ended.{Ended}

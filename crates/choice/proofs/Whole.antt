@@ -1,19 +1,18 @@
 -- The whole choice: it is the only one, and what every choice reaches.
-use Rattle.std.proofs.Common.{◌≡◌, ℕ, ◌^◌, ◌≤◌, List, [], length, Some, None, Option, refl, sym, ap, ◌∙◌, inl, inr, arith}
+use Rattle.std.proofs.Common.{◌≡◌, ℕ, ◌^◌, ◌≤◌, List, [], length, Some, None, Option, refl, sym, ◌∙◌, subst, inl, inr, arith}
 use Rattle.std.proofs.Math.Pow.{pow_mono}
 use Rattle.std.proofs.lemmas.Bool.{cases_lt, lt-ltb}
-use Rattle.bits.proofs.Lengths.{length_with}
 use Rattle.kinds.specs.Meaning.{Meaning}
 use Rattle.blocks.specs.Blocks.{table_size}
-use Rattle.choice.specs.Growth.{Grown, full, stuck, no_gain, grow}
-use Rattle.choice.specs.Choice.{Reached, FitsIn, cost_in, IsChoice, Way, Unbettered}
+use Rattle.choice.specs.Growth.{Grown}
+use Rattle.choice.specs.Choice.{Reached, GoesThrough, no_bit, FitsIn, cost_in, IsChoice, Way, Unbettered}
 use Rattle.choice.specs.Offers.{offer_of}
 use Rattle.choice.specs.declared.choice.Choice.{Choice}
 use Rattle.choice.specs.declared.choice.Outcome.TheVariants.{Settled}
 use Rattle.choice.specs.declared.limits.Limits.{Limits}
 use Rattle.choice.specs.declared.search.Offer.{Offer}
 use Rattle.choice.proofs.Deterministic.{chosen_one}
-use Rattle.choice.proofs.Reached.{each_reached, chosen_goes, chosen_unbettered, chosen_few}
+use Rattle.choice.proofs.Reached.{each_reached, grown_goes, evolved_goes, evolved_unbettered, evolved_few}
 
 module _ {Header Rule Row : Type 0} (k : Meaning Header Rule Row) (rules : List (Option Rule)) (room : ℕ) (judge : List ℕ → ℕ) where
   -- an offer is of a set whose table fits
@@ -31,7 +30,7 @@ module _ {Header Rule Row : Type 0} (k : Meaning Header Rule Row) (rules : List 
 
   pub way_reached : (limits : Limits) (choice : Choice) → FitsIn k rules room [] → IsChoice k rules room judge limits choice → Way k rules room judge limits.most_bits choice
   way_reached limits choice fits is = record {
-    last = chosen_goes (FitsIn k rules room) (cost_in k rules judge) k.width limits.most_bits limits.most_tries choice.bits choice.tries choice.outcome is;
+    last = evolved_goes (FitsIn k rules room) (cost_in k rules judge) k.width limits.most_bits (grown_goes (FitsIn k rules room) (cost_in k rules judge) k.width limits.most_bits no_bit is.grows) is.evolves;
     each = λ bits. each_reached (FitsIn k rules room) (cost_in k rules judge) k.width limits.most_bits fits;
   }
 
@@ -39,19 +38,14 @@ module _ {Header Rule Row : Type 0} (k : Meaning Header Rule Row) (rules : List 
   bits_reached limits choice fits is = let way = way_reached limits choice fits is in way.each choice.bits way.last
 
   pub few_tries : (limits : Limits) (choice : Choice) → IsChoice k rules room judge limits choice → choice.tries ≤ limits.most_tries
-  few_tries limits choice = chosen_few (FitsIn k rules room) (cost_in k rules judge) k.width limits.most_bits limits.most_tries choice.bits choice.tries choice.outcome
+  few_tries limits choice is = evolved_few (FitsIn k rules room) (cost_in k rules judge) k.width is.evolves
 
   pub settled_unbettered : (limits : Limits) (choice : Choice) → IsChoice k rules room judge limits choice → choice.outcome ≡ Settled → Unbettered (FitsIn k rules room) (cost_in k rules judge) k.width choice.bits
-  settled_unbettered limits choice = chosen_unbettered (FitsIn k rules room) (cost_in k rules judge) k.width limits.most_bits limits.most_tries choice.bits choice.tries choice.outcome
+  settled_unbettered limits choice is = evolved_unbettered (FitsIn k rules room) (cost_in k rules judge) k.width is.evolves
 
--- what has grown has at most so many bits
-grown_few : {Fits : List ℕ → Type 0} {cost : List ℕ → ℕ} {width most : ℕ} {bits end : List ℕ} → length bits ≤ most → Grown Fits cost width most bits end → length end ≤ most
-grown_few few (full _) = few
-grown_few few (stuck _ _) = few
-grown_few few (no_gain _ _ _ _) = few
-grown_few few (grow {bits} less b _ more) = grown_few (omega (arith, length_with b bits)) more
-
-pub grown_room : {Fits : List ℕ → Type 0} {cost : List ℕ → ℕ} {width most : ℕ} {bits end : List ℕ} (n : ℕ) → bits ≡ [] → Grown Fits cost width most bits end → 2 ^ most ≤ n → 2 ^ length end ≤ n
-grown_room n none grown room =
-    let few = grown_few (omega (arith, ap length none)) grown in
-    omega (arith, pow_mono few)
+  -- what has grown from no bit has cells for few bits
+  pub grown_room : (most n : ℕ) (bits end : List ℕ) → FitsIn k rules room [] → bits ≡ [] → Grown (FitsIn k rules room) (cost_in k rules judge) k.width most bits end → 2 ^ most ≤ n → 2 ^ length end ≤ n
+  grown_room most n bits end fits none grown enough =
+      let start = subst (GoesThrough (FitsIn k rules room) (cost_in k rules judge) k.width most) (sym none) no_bit in
+      let few = (each_reached (FitsIn k rules room) (cost_in k rules judge) k.width most fits (grown_goes (FitsIn k rules room) (cost_in k rules judge) k.width most start grown)).few in
+      omega (arith, pow_mono few)

@@ -11,11 +11,11 @@
 --     UnbetteredIfSettled   a choice that settled can't be bettered by an exchange
 -- Assumes nothing.
 use Rattle.std.specs.Prelude.{◌≡◌, ℕ, ◌<◌, ◌≤◌, true, List, [], length, Option}
-use Rattle.bits.specs.Sets.{rising, member, with_bit}
+use Rattle.bits.specs.Sets.{rising, member, with_bit, exchanged}
 use Rattle.kinds.specs.Meaning.{Meaning}
 use Rattle.blocks.specs.Blocks.{sizes, Fits}
 use Rattle.choice.specs.Growth.{is_free, Gains, Grown}
-use Rattle.choice.specs.Evolution.{exchanged, exchange_at, FirstBetter, Evolved}
+use Rattle.choice.specs.Evolution.{exchange_at, FirstBetter, Evolved}
 use Rattle.choice.specs.declared.choice.Choice.{Choice}
 use Rattle.choice.specs.declared.choice.Outcome.{Outcome}
 use Rattle.choice.specs.declared.choice.Outcome.TheVariants.{Settled}

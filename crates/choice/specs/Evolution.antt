@@ -1,6 +1,5 @@
 -- Intelli-Evolution: chosen bits are exchanged for others, one at a time, while that gains.
 --     unchosen      the bits of a header that are not chosen, rising
---     exchanged     the set with one bit out and another in
 --     exchanges     the sets that one exchange leads to: the bit out rising, and for each the bit in, rising
 --     exchange_at   the set at a place of these
 --     Better        a set whose table fits and costs less
@@ -10,16 +9,13 @@
 -- Assumes nothing.
 use Rattle.std.specs.Prelude.{ℕ, ◌+◌, ◌-◌, ◌<◌, ◌≤◌, List, [], map, filter, length, slice_index_or}
 use Rattle.std.specs.List.{flat_map, range_with_len}
-use Rattle.bits.specs.Sets.{with_bit, without_bit}
+use Rattle.bits.specs.Sets.{exchanged}
 use Rattle.choice.specs.Growth.{is_free}
 use Rattle.choice.specs.declared.choice.Outcome.{Outcome}
 use Rattle.choice.specs.declared.choice.Outcome.TheVariants.{Settled, Stopped}
 
 abbrev pub unchosen : ℕ → List ℕ → List ℕ
 unchosen width bits = filter (is_free bits) (range_with_len 0 width)
-
-abbrev pub exchanged : List ℕ → ℕ → ℕ → List ℕ
-exchanged bits out b = with_bit b (without_bit out bits)
 
 abbrev pub exchanges : ℕ → List ℕ → List (List ℕ)
 exchanges width bits = flat_map (λ out. map (exchanged bits out) (unchosen width bits)) bits

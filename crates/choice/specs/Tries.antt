@@ -8,8 +8,8 @@
 use Rattle.std.specs.Prelude.{ℕ, ◌-◌, ◌==◌, List, [], ◌∷◌, Some, None, Option, if◌then◌else◌, nat_lt}
 use Rattle.std.specs.declared.ops.ControlFlow.{ControlFlow}
 use Rattle.std.specs.declared.ops.ControlFlow.TheVariants.{Continue, Break}
+use Rattle.bits.specs.Sets.{exchanged}
 use Rattle.choice.specs.Growth.{is_free}
-use Rattle.choice.specs.Evolution.{exchanged}
 use Rattle.choice.specs.declared.search.Offer.{Offer}
 use Rattle.choice.specs.declared.evolve.Ended.{Ended}
 use Rattle.choice.specs.declared.evolve.Ended.TheVariants.{Taken, Spent}

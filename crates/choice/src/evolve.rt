@@ -1,8 +1,8 @@
 // Intelli-Evolution: a chosen bit is exchanged for another, one at a time, while that gains.
 ghost use Rattle.std.specs.Prelude.{◌≡◌, ◌^◌, ◌<◌, ◌≤◌, true, length, map};
-ghost use Rattle.bits.specs.Sets.{member};
+ghost use Rattle.bits.specs.Sets.{member, exchanged};
 ghost use Rattle.blocks.specs.Tallies.{SameCells};
-ghost use Rattle.choice.specs.Evolution.{unchosen, exchanged, exchanges};
+ghost use Rattle.choice.specs.Evolution.{unchosen, exchanges};
 ghost use Rattle.choice.specs.Searches.{offer_in, Costed, Evolves};
 ghost use Rattle.choice.specs.Tries.{try_of, exchange_try, tries_of};
 

@@ -8,7 +8,9 @@ evolve-requires-clause-room g c =
     let room : 2 ^ c.args.limits.most_bits ≤ length c.args.tally.now = search rules in
     let none : c.in_ok-none.none.bits ≡ [] = search rules in
     let same : length c.grow-grown.new.tally.cells.now ≡ length c.args.tally.now = search rules in
-    grown_room _ none c.grow-grown.ensures.grown (omega (arith, room, same))
+    grown_room g.K.Kind.meaning (rules_of g.K.Kind.meaning c.args.lines.now) c.args.room (g.J.Judge.cost c.args.judge.now) c.args.limits.most_bits _ c.in_ok-none.none.bits c.grow-grown.result.bits
+    (offer_fits g.K.Kind.meaning (rules_of g.K.Kind.meaning c.args.lines.now) c.args.room (g.J.Judge.cost c.args.judge.now) [] c.in_ok-none.none c.offer.result c.in_ok-none.ensures.ok_part (search rules))
+    none c.grow-grown.ensures.grown (omega (arith, room, same))
 
 pub returns-clause-only : goal.returns-clause-only
 returns-clause-only g c = only_choice g.K.Kind.meaning (rules_of g.K.Kind.meaning c.args.lines.now) c.args.room (g.J.Judge.cost c.args.judge.now) c.args.limits c.evolve.result (search rules)

@@ -1,6 +1,7 @@
 use Rattle.std.proofs.Common.{◌≡◌, map}
 use Rattle.blocks.specs.Tallies.{SameCells}
-use Rattle.choice.specs.Evolution.{unchosen, exchanged}
+use Rattle.bits.specs.Sets.{exchanged}
+use Rattle.choice.specs.Evolution.{unchosen}
 use Rattle.choice.specs.Searches.{offer_in}
 use Rattle.choice.specs.Tries.{tries_of}
 use Rattle.choice.proofs.Tries.{row_from}
