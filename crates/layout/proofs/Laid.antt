@@ -28,6 +28,9 @@ module _ {Header Rule Row : Type 0} (k : Meaning Header Rule Row) (rules : List 
   pub laid_fits : (len : ℕ) → length (laid k rules bits len) ≡ len → Fits k rules bits len
   laid_fits len e = omega (arith, length_all len)
 
+  pub length_laid : (len : ℕ) → Fits k rules bits len → length (laid k rules bits len) ≡ len
+  length_laid len fits = omega (arith, length_all len)
+
   -- the number at place c, which is where its block starts
   pub laid_start : (len c : ℕ) → c ≤ 2 ^ length bits → get_or (laid k rules bits len) c 0 ≡ start c
   laid_start len c h =

@@ -76,6 +76,6 @@ module _ {Header Rule Row : Type 0} (k : Meaning Header Rule Row) where
         pub counted : WalksTo h (block k rules bits (cell_of k bits h)) line tried
         pub few : tried ≤ largest (sizes k rules bits)
 
-      abbrev pub FindsLowest : Result (Option ℕ × ℕ) Spoilt → Type 0
+      abbrev pub FindsLowest : {F : Type 0} → Result (Option ℕ × ℕ) F → Type 0
       FindsLowest (Ok answer) = Found answer.0 answer.1
-      FindsLowest (Err spoilt) = ⊥
+      FindsLowest (Err fault) = ⊥

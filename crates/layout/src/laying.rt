@@ -4,6 +4,7 @@ ghost use Rattle.std.specs.List.{flat_map};
 ghost use Rattle.kinds.specs.Checks.{checked};
 ghost use Rattle.kinds.specs.Lines.{rules_of};
 ghost use Rattle.blocks.specs.Blocks.{Fits, block, blocks as all_blocks, sizes as all_sizes};
+ghost use Rattle.blocks.specs.Changes.{changed};
 ghost use Rattle.blocks.specs.Counts.{table_checks, began};
 ghost use Rattle.blocks.specs.Plans.{rules_in};
 ghost use Rattle.layout.specs.Layout.{starts, laid};
@@ -11,7 +12,7 @@ ghost use Rattle.layout.specs.Writing.{written, SameArea};
 
 use super::writer::Writer;
 use bits::Bits;
-use blocks::{Plan, Refusal, Tally};
+use blocks::{Change, Plan, Refusal, Tally};
 use kinds::{Kind, Line};
 
 // Writes where each block starts, and last where they all end.
@@ -66,24 +67,25 @@ fn write_table<K: Kind>(plan: &Plan<K::Row>, sizes: &[u32], area: &mut [u32])
     write_blocks::<K>(&mut out, plan);
 }
 
-// Lays the table of some lines for a set of bits, or leaves the area as it was.
-// Lines and bits and no `Plan`: too many lines are refused here.
+// Lays the table of some lines, which may have one of them changed, for a set of bits, or leaves the area as it was.
+// The lines are only read. Lines and bits and no `Plan`: too many lines are refused here.
 pub fn lay<K: Kind>(
     lines: &[Line<K::Row>],
+    change: Option<Change<K::Row>>,
     bits: &Bits,
     area: &mut [u32],
     tally: &mut [u32],
 ) -> Result<(), Refusal>
-    ensures answer { result ≡ checked (table_checks K.meaning lines.now bits.now (length tally.old) (length area.old)) tt }
-    ensures area { area.new ≡ (if is_ok result then laid K.meaning (rules_of K.meaning lines.now) bits.now (length area.old) else area.old) }
+    ensures answer { result ≡ checked (table_checks K.meaning (changed change lines.now) bits.now (length tally.old) (length area.old)) tt }
+    ensures area { area.new ≡ (if is_ok result then laid K.meaning (rules_of K.meaning (changed change lines.now)) bits.now (length area.old) else area.old) }
     ensures tally { tally.new ≡ (if began result then replicate (length tally.old) 0 else tally.old) }
 {
     blocks::ready(lines.len(), bits.cells(), tally.len())?;
     let mut guard = Tally::new(tally);
-    guard.fits::<K>(lines, None, bits, area.len())?;
+    guard.fits::<K>(lines, change, bits, area.len())?;
     let plan = Plan {
         lines,
-        change: None,
+        change,
         bits,
     };
     write_table::<K>(&plan, guard.sizes(bits), area);

@@ -12,7 +12,7 @@ fn refuses_a_small_area(rt: HostRuntime) -> Result<(), Fail> {
     let bits = pair(1, 2).ok_or("no bits")?;
     let mut area = [7u32; 16];
     let mut tally = [5u32; 6];
-    let laid = layout::lay::<Bridge>(&seven_lines::lines(), &bits, &mut area, &mut tally);
+    let laid = layout::lay::<Bridge>(&seven_lines::lines(), None, &bits, &mut area, &mut tally);
     assert_eq!(rt; laid, Err(Refusal::NoRoom));
     assert_eq!(rt; area, [7u32; 16]);
     assert_eq!(rt; tally, [0u32; 6]);
@@ -24,7 +24,7 @@ fn refuses_a_short_tally(rt: HostRuntime) -> Result<(), Fail> {
     let bits = pair(1, 2).ok_or("no bits")?;
     let mut area = [7u32; 17];
     let mut tally = [5u32; 3];
-    let laid = layout::lay::<Bridge>(&seven_lines::lines(), &bits, &mut area, &mut tally);
+    let laid = layout::lay::<Bridge>(&seven_lines::lines(), None, &bits, &mut area, &mut tally);
     assert_eq!(rt; laid, Err(Refusal::ShortTally));
     assert_eq!(rt; area, [7u32; 17]);
     assert_eq!(rt; tally, [5u32; 3]);
@@ -42,7 +42,7 @@ fn lays_into_used_memory(rt: HostRuntime) -> Result<(), Fail> {
     let bits = pair(1, 2).ok_or("no bits")?;
     let mut area = [9u32; 20];
     let mut tally = [9u32; 5];
-    let laid = layout::lay::<Bridge>(&seven_lines::lines(), &bits, &mut area, &mut tally);
+    let laid = layout::lay::<Bridge>(&seven_lines::lines(), None, &bits, &mut area, &mut tally);
     assert_eq!(rt; laid, Ok(()));
     assert_eq!(rt;
         area,
@@ -62,7 +62,7 @@ fn lays_filled_lines_alone(rt: HostRuntime) {
     lines[6].row.value.first = 1;
     let mut area = [9u32; 8];
     let mut tally = [0u32; 1];
-    let laid = layout::lay::<Bridge>(&lines, &Bits::none(), &mut area, &mut tally);
+    let laid = layout::lay::<Bridge>(&lines, None, &Bits::none(), &mut area, &mut tally);
     assert_eq!(rt; laid, Ok(()));
     assert_eq!(rt; area, [0u32, 5, 0, 1, 2, 4, 5, 0]);
 }

@@ -22,7 +22,7 @@ fn answer(
         most_tries: 1000,
     };
     let choice = choice::choose::<Routed, Largest>(&lines, area.len(), &Largest, limits, tally)?;
-    layout::lay::<Routed>(&lines, &choice.bits, area, tally)?;
+    layout::lay::<Routed>(&lines, None, &choice.bits, area, tally)?;
     Ok(layout::look_up::<Routed>(&lines, &choice.bits, area, &header)?)
 }
 

@@ -3,7 +3,7 @@ ghost use Rattle.std.specs.Prelude.{◌≡◌, ◌<◌, [], ◌∷◌, None, Ok,
 ghost use Rattle.kinds.specs.Lines.{rules_of};
 ghost use Rattle.bridge.specs.Frames.{header_of};
 ghost use Rattle.bridge.specs.Bridge.{bridge};
-ghost use Rattle.layout.specs.LookUp.{FindsLowest};
+ghost use Rattle.layout.specs.LookUp.{Found};
 ghost use Rattle.seven_lines.specs.Seven.{seven};
 ghost use Rattle.worked_table.specs.Lists.{AnswersFrom};
 
@@ -65,11 +65,11 @@ impl<const N: usize> Book<N> {
 
     // The lowest line for a header, or none, with the entries tried: from a table of the lines as they are now, laid for this answer.
     fn answer_anew(&self, header: &Header) -> Result<(Option<usize>, usize), FaultCode>
-        ensures { IfOk result (λ found. FindsLowest bridge (rules_of bridge self.now.lines) self.now.bits header.now (Ok found)) }
+        ensures { IfOk result (λ found. Found bridge (rules_of bridge self.now.lines) self.now.bits header.now found.0 found.1) }
     {
         let mut area = [0u32; ROOM];
         let mut tally = [0u32; 4];
-        layout::lay::<Bridge>(&self.lines, &self.bits, &mut area, &mut tally)?;
+        layout::lay::<Bridge>(&self.lines, None, &self.bits, &mut area, &mut tally)?;
         Ok(layout::look_up::<Bridge>(&self.lines, &self.bits, &area, header)?)
     }
 
@@ -85,7 +85,7 @@ impl<const N: usize> Book<N> {
     // Lays the table into an area, or says why not.
     fn lay(&self, rt: &impl Print, area: &mut [u32]) -> io::Result<()> {
         let mut tally = [0u32; 4];
-        match layout::lay::<Bridge>(&self.lines, &self.bits, area, &mut tally) {
+        match layout::lay::<Bridge>(&self.lines, None, &self.bits, area, &mut tally) {
             Ok(()) => Ok(()),
             Err(refusal) => say::refusal(rt, refusal),
         }

@@ -1,0 +1,26 @@
+-- A call as it is told: it was refused and left all as it was, or it did what it does.
+use Rattle.std.proofs.Common.{◌≡◌, ◌⊎◌, inl, inr, Result, Ok, Err, refl}
+use Rattle.table.specs.Calls.{Memory, Untouched, Answers}
+use Rattle.table.specs.declared.refusal.Refusal.{Refusal}
+
+module _ {Row A F : Type 0} (tell : Refusal → F) (Does : A → Type 0) (found left : Memory Row) where
+  pub record Did (v : Result (Unit {0}) Refusal) (r : Result A F) : Type 0 where
+    pub answer : A
+    pub passed : v ≡ Ok tt
+    pub is : r ≡ Ok answer
+    pub does : Does answer
+
+  pub record WasRefused (v : Result (Unit {0}) Refusal) (r : Result A F) : Type 0 where
+    pub refusal : Refusal
+    pub failed : v ≡ Err refusal
+    pub is : r ≡ Err (tell refusal)
+    pub kept : Untouched refusal found left
+
+  pub cases : (v : Result (Unit {0}) Refusal) (r : Result A F) → Answers tell Does found left v r → Did v r ⊎ WasRefused v r
+  cases (Ok _) (Ok x) a = inl (record { answer = x; passed = refl; is = refl; does = a })
+  cases (Ok _) (Err fault) a = absurd a
+  cases (Err refusal) (Ok x) a = absurd a
+  cases (Err refusal) (Err fault) a = inr (record { refusal = refusal; failed = refl; is = err_is a.0; kept = a.1 })
+    where
+      err_is : {X G : Type 0} {one other : G} → one ≡ other → ◌≡◌ {A = Result X G} (Err one) (Err other)
+      err_is e = cc

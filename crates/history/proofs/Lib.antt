@@ -1,0 +1,4 @@
+pub mod Walks
+pub mod Plain
+pub mod Answers
+pub mod Standing

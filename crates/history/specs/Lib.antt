@@ -1,0 +1,4 @@
+pub mod Turns
+pub mod Plain
+pub mod Histories
+pub mod Facts

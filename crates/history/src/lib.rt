@@ -1,0 +1,7 @@
+// Histories of a table: it is made over lent memory and carries out a list of calls, and what holds after every such history.
+#![tactic(auto)]
+
+mod carrying;
+mod turn;
+
+pub use turn::{Answer, Asked, Call, Turn};

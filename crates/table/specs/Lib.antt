@@ -1,0 +1,4 @@
+pub mod Refusals
+pub mod Checks
+pub mod Lines
+pub mod Calls
