@@ -2,6 +2,7 @@
 use Rattle.std.proofs.Common.{◌≡◌, ◌⊎◌, inl, inr, Result, Ok, Err, refl}
 use Rattle.table.specs.Calls.{Memory, Untouched, Answers}
 use Rattle.table.specs.declared.refusal.Refusal.{Refusal}
+use Rattle.table.proofs.Calls.{err_ok}
 
 module _ {Row A F : Type 0} (tell : Refusal → F) (Does : A → Type 0) (found left : Memory Row) where
   pub record Did (v : Result (Unit {0}) Refusal) (r : Result A F) : Type 0 where
@@ -24,3 +25,13 @@ module _ {Row A F : Type 0} (tell : Refusal → F) (Does : A → Type 0) (found 
     where
       err_is : {X G : Type 0} {one other : G} → one ≡ other → ◌≡◌ {A = Result X G} (Err one) (Err other)
       err_is e = cc
+
+  -- a call whose checks all pass isn't refused
+  pub not_refused : (v : Result (Unit {0}) Refusal) (fault : F) → v ≡ Ok tt → Answers tell Does found left v (Err fault) → ⊥
+  not_refused (Ok _) fault e a = a
+  not_refused (Err refusal) fault e a = err_ok e
+
+  -- and one that isn't did what it does
+  pub did : (v : Result (Unit {0}) Refusal) (x : A) → Answers tell Does found left v (Ok x) → (v ≡ Ok tt) × Does x
+  did (Ok _) x a = (refl, a)
+  did (Err refusal) x a = absurd a

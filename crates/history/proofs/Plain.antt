@@ -1,5 +1,5 @@
 -- The plain book answers in one way: the same calls on the same book are answered alike, and leave the same book.
-use Rattle.std.proofs.Common.{◌≡◌, ℕ, ◌+◌, List, [], ◌∷◌, ◌++◌, length, Some, None, Ok, Err, Option, Result, sym, refl, ap, ap₂, ◌∙◌, subst, arith}
+use Rattle.std.proofs.Common.{◌≡◌, ℕ, List, [], ◌∷◌, ◌++◌, length, Ok, Err, Result, sym, refl, ap, ap₂, ◌∙◌, subst, arith}
 use Rattle.std.proofs.lemmas.List.{length-append, same_from_push}
 use Rattle.kinds.specs.Meaning.{Meaning}
 use Rattle.blocks.specs.Cells.{cell_of}
@@ -7,11 +7,10 @@ use Rattle.blocks.specs.Blocks.{block}
 use Rattle.choice.specs.declared.choice.Choice.{Choice}
 use Rattle.choice.proofs.Whole.{only_choice}
 use Rattle.table.specs.Refusals.{at}
-use Rattle.table.specs.Checks.{verdict}
 use Rattle.table.specs.declared.refusal.Refusal.{Refusal}
 use Rattle.table.proofs.Calls.{err_ok, err_one}
 use Rattle.history.specs.Turns.{AnyCall, AnyTurn, line_of}
-use Rattle.history.specs.Plain.{Plain, plain_checks, with_bits, Says, Tells}
+use Rattle.history.specs.Plain.{Plain, with_bits, Says, Tells}
 use Rattle.history.specs.declared.turn.Answer.{Answer}
 use Rattle.history.specs.declared.turn.Answer.TheVariants.{Chosen, Found, Refused}
 use Rattle.history.proofs.Walks.{walks_one}

@@ -1,6 +1,6 @@
 -- A table stands: its memory is as long as it says, and its area is the one that laying gives. What follows for its calls.
-use Rattle.std.proofs.Common.{◌≡◌, ℕ, ◌≤◌, Bool, false, List, length, Some, None, Ok, Err, Option, Result, not, ◌||◌, ◌++◌, eqb, ltb, slice_get, slice_set, IsSomeAnd, sym, refl, ap, ap₂, ◌∙◌, subst, arith}
-use Rattle.std.proofs.lemmas.Bool.{eq-eqb, ltb-false}
+use Rattle.std.proofs.Common.{◌≡◌, ℕ, false, List, length, Some, None, Ok, Err, Option, Result, not, eqb, slice_get, slice_set, IsSomeAnd, sym, refl, ap, ◌∙◌, subst}
+use Rattle.std.proofs.lemmas.Bool.{eq-eqb, eqb-true, not-false}
 use Rattle.std.proofs.lemmas.List.{length-set}
 use Rattle.kinds.specs.Meaning.{Meaning, Lawful}
 use Rattle.kinds.specs.Checks.{◌and_then◌}
@@ -18,9 +18,11 @@ use Rattle.table.specs.Lines.{IsEmptied, Replaced}
 use Rattle.table.specs.Calls.{laid_for, looks_up}
 use Rattle.table.specs.declared.refusal.Refusal.{Refusal}
 use Rattle.table.specs.declared.shape.Shape.{Shape}
-use Rattle.table.proofs.Calls.{verdict_behind}
 use Rattle.table.proofs.Lines.{rules_of_replaced}
 use Rattle.history.specs.Histories.{Moment}
+
+pub same_length : (lines count : ℕ) → not (eqb lines count) ≡ false → lines ≡ count
+same_length lines count e = eqb-true lines count (not-false (eqb lines count) e)
 
 module _ {Header Rule Row : Type 0} (k : Meaning Header Rule Row) where
   pub record Stands (room : ℕ) (m : Moment Row) : Type 0 where

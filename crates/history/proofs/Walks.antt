@@ -1,9 +1,9 @@
 -- A look-up on the plain book has one answer.
-use Rattle.std.proofs.Common.{◌≡◌, ℕ, ◌+◌, ◌≤◌, List, [], ◌∷◌, ◌++◌, length, get_or, Some, None, Ok, Option, Result, sym, refl, ap, ap₂, ◌∙◌, subst, true, arith}
+use Rattle.std.proofs.Common.{◌≡◌, ℕ, ◌+◌, List, [], ◌∷◌, ◌++◌, length, get_or, Some, None, Ok, Option, Result, ap, ◌∙◌, true, arith}
 use Rattle.std.specs.List.{AllByRecursion}
 use Rattle.std.proofs.lemmas.Bool.{cond-true, cond-false, false≢true}
 use Rattle.kinds.specs.Meaning.{Meaning}
-use Rattle.kinds.specs.Lines.{matches_at, Matches, Lowest}
+use Rattle.kinds.specs.Lines.{matches_at, Matches}
 use Rattle.layout.specs.LookUp.{try_entry, walked, Misses, WalksTo}
 use Rattle.layout.specs.declared.spoilt.Spoilt.{Spoilt}
 

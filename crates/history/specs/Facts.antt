@@ -8,12 +8,11 @@
 --     AllCertified     each choice is certified, the first included
 --     Facts            all of these
 -- Assumes nothing.
-use Rattle.std.specs.Prelude.{◌≡◌, ℕ, List, map, length, Option}
+use Rattle.std.specs.Prelude.{◌≡◌, ℕ, List, length, Option}
 use Rattle.kinds.specs.Meaning.{Meaning}
 use Rattle.kinds.specs.Lines.{rules_of}
 use Rattle.choice.specs.Choice.{Reached, FitsIn, IsChoice, IsOnlyChoice, UnbetteredIfSettled}
 use Rattle.choice.specs.declared.choice.Choice.{Choice}
-use Rattle.choice.specs.declared.limits.Limits.{Limits}
 use Rattle.layout.specs.LookUp.{FindsLowest}
 use Rattle.table.specs.Calls.{laid_for, looks_up}
 use Rattle.history.specs.Turns.{AnyTurn}
@@ -43,7 +42,6 @@ module _ {Header Rule Row : Type 0} (k : Meaning Header Rule Row) where
     FindsTheLowest = (header : Header) → FindsLowest k (rules_of k last.lines) last.table.bits header (looks_up k last.table header last.lines last.area)
 
     pub record Canonical : Type 0 where
-      pub lines : length last.lines ≡ length start.lines
       pub long : length last.area ≡ start.room
       pub area : last.area ≡ laid_for k last.table last.lines last.area
 

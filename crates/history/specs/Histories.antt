@@ -6,7 +6,7 @@
 --     Made       a table made so: by one measuring and one laying, neither refused
 --     History    a making, and then any list of calls
 -- Assumes nothing.
-use Rattle.std.specs.Prelude.{◌≡◌, ℕ, List, [], ◌∷◌, ◌++◌, length, Ok, Err, Option, Result}
+use Rattle.std.specs.Prelude.{◌≡◌, ℕ, List, [], ◌∷◌, ◌++◌, length, Ok, Result}
 use Rattle.kinds.specs.Meaning.{Meaning}
 use Rattle.kinds.specs.declared.line.Line.{Line}
 use Rattle.choice.specs.declared.choice.Choice.{Choice}

@@ -8,7 +8,6 @@ use Rattle.std.specs.Prelude.{◌≡◌, ℕ, Bool, List, [], ◌∷◌, ◌++�
 use Rattle.kinds.specs.Meaning.{Meaning}
 use Rattle.choice.specs.Choice.{IsChoice}
 use Rattle.choice.specs.declared.choice.Choice.{Choice}
-use Rattle.choice.specs.declared.limits.Limits.{Limits}
 use Rattle.layout.specs.LookUp.{Found as FindsLine}
 use Rattle.table.specs.Refusals.{at}
 use Rattle.table.specs.Checks.{verdict, put_checks, strike_checks, room_checks, choice_checks}

@@ -1,5 +1,6 @@
 -- Turns of a history, by what their judges say.
 --     AnyCall, AnyTurn   a call whose judge, if it has one, is a cost, and such a call with the length of the tally that it is lent
+--     priced             what is asked, with the judge told by its costs
 --     costed             a call as it is told so
 --     lent               a turn as it is taken where so many numbers of the tally are at hand
 --     line_of            the line that a call is given, or 0
@@ -22,11 +23,14 @@ module _ (Rule Header : Type 0) where
   abbrev pub AnyTurn : Type 0
   AnyTurn = Turn Rule Header (List ℕ → ℕ)
 
+abbrev pub priced : {J : Type 0} → (J → List ℕ → ℕ) → Asked J → Asked (List ℕ → ℕ)
+priced cost asked = record { judge = cost asked.judge; limits = asked.limits }
+
 module _ {Rule Header J : Type 0} where
   abbrev pub costed : (J → List ℕ → ℕ) → Call Rule Header J → AnyCall Rule Header
   costed cost (Put line rule) = Put line rule
   costed cost (Strike line) = Strike line
-  costed cost (Choose asked) = Choose (record { judge = cost asked.judge; limits = asked.limits })
+  costed cost (Choose asked) = Choose (priced cost asked)
   costed cost (LookUp header) = LookUp header
 
   abbrev pub lent : (J → List ℕ → ℕ) → (tally : ℕ) → Turn Rule Header J → AnyTurn Rule Header

@@ -1,12 +1,16 @@
-// Carrying out one call of a history.
-ghost use Rattle.std.specs.Prelude.{◌≡◌, length};
+// Carrying out the calls of a history.
+ghost use Rattle.std.specs.Prelude.{◌≡◌, length, take, drop, map};
+ghost use Rattle.table.specs.Calls.{zeros};
+ghost use Rattle.history.specs.Turns.{costed, lent};
+ghost use Rattle.history.specs.Histories.{moment, Step, Lives};
 
-use super::turn::{Answer, Call};
+use super::turn::{Answer, Call, Turn};
 use judges::Judge;
 use kinds::{Kind, Line};
 use table::LaidTable;
 
 // Carries out one call, lent a tally.
+#[tactic(auto, using(crate::proofs::Carried::put_step, crate::proofs::Carried::strike_step, crate::proofs::Carried::choose_step, crate::proofs::Carried::look_step))]
 fn act<K: Kind, J: Judge>(
     table: &mut LaidTable<K>,
     lines: &mut [Line<K::Row>],
@@ -14,11 +18,49 @@ fn act<K: Kind, J: Judge>(
     tally: &mut [u32],
     call: &Call<K::Rule, K::Header, J>,
 ) -> Answer
+    ensures step { Step K.meaning (moment table.old.shape lines.old area.old) (length tally.old) (costed J.cost call.now) result (moment table.new.shape lines.new area.new) }
+    ensures tally { tally.old ≡ zeros tally.old → tally.new ≡ zeros tally.old }
 {
     match call {
         Call::Put { line, rule } => Answer::from(table.put(lines, area, tally, *line, rule)),
         Call::Strike { line } => Answer::from(table.strike(lines, area, tally, *line)),
-        Call::Choose { asked } => Answer::from(table.choose(lines, area, &asked.judge, asked.limits, tally)),
+        Call::Choose { asked } => {
+            Answer::from(table.choose(lines, area, &asked.judge, asked.limits, tally))
+        }
         Call::LookUp { header } => Answer::from(table.look_up(lines, area, header)),
+    }
+}
+
+// Carries out one turn, which is lent as many numbers of the tally as it says, or all of them.
+fn take_turn<K: Kind, J: Judge>(
+    table: &mut LaidTable<K>,
+    lines: &mut [Line<K::Row>],
+    area: &mut [u32],
+    tally: &mut [u32],
+    turn: &Turn<K::Rule, K::Header, J>,
+) -> Answer
+    ensures step { Step K.meaning (moment table.old.shape lines.old area.old) (lent J.cost (length tally.old) turn.now).tally (lent J.cost (length tally.old) turn.now).call result (moment table.new.shape lines.new area.new) }
+    ensures tally { tally.old ≡ zeros tally.old → tally.new ≡ zeros tally.old }
+{
+    let part = turn.tally.min(tally.len());
+    act(table, lines, area, &mut tally[..part], &turn.call)
+}
+
+// Carries out turns in order, as many as there are places for their answers.
+pub(crate) fn carry_out<K: Kind, J: Judge>(
+    table: &mut LaidTable<K>,
+    lines: &mut [Line<K::Row>],
+    area: &mut [u32],
+    tally: &mut [u32],
+    turns: &[Turn<K::Rule, K::Header, J>],
+    answers: &mut [Answer],
+)
+    ensures lived { Lives K.meaning (moment table.old.shape lines.old area.old) (take (length answers.old) (map (lent J.cost (length tally.old)) turns.now)) (take (length turns.now) answers.new) (moment table.new.shape lines.new area.new) }
+    ensures behind { drop (length turns.now) answers.new ≡ drop (length turns.now) answers.old }
+    ensures tally { tally.old ≡ zeros tally.old → tally.new ≡ zeros tally.old }
+{
+    let count = turns.len().min(answers.len());
+    for (at, turn) in turns[..count].iter().enumerate() {
+        answers[at] = take_turn(table, lines, area, tally, turn);
     }
 }

@@ -2,6 +2,8 @@
 #![tactic(auto)]
 
 mod carrying;
+mod running;
 mod turn;
 
+pub use running::run;
 pub use turn::{Answer, Asked, Call, Turn};

@@ -1,0 +1,110 @@
+-- Making a table: what was measured for an area can be laid in it, and what is made and carried out is a history.
+use Rattle.std.proofs.Common.{◌≡◌, ℕ, Bool, List, [], ◌++◌, length, take, drop, replicate, Ok, Err, sym, refl, ap, ap₂, ◌∙◌, subst}
+use Rattle.std.proofs.lemmas.List.{length-replicate}
+use Rattle.std.proofs.lemmas.Bool.{ltb-false}
+use Rattle.kinds.specs.Meaning.{Meaning}
+use Rattle.kinds.specs.Lines.{rules_of}
+use Rattle.kinds.specs.declared.line.Line.{Line}
+use Rattle.choice.specs.declared.choice.Choice.{Choice}
+use Rattle.choice.proofs.Whole.{bits_reached}
+use Rattle.table.specs.Checks.{verdict, lines_checks, memory_checks, room_checks, choice_checks}
+use Rattle.table.specs.Calls.{memory, zeros, Measured, Measures, Laid, Lays}
+use Rattle.table.specs.declared.refusal.Refusal.{Refusal}
+use Rattle.table.specs.declared.shape.Shape.{Shape}
+use Rattle.table.proofs.Calls.{all_pass, verdict_behind, done}
+use Rattle.table.proofs.Rooms.{chosen_room}
+use Rattle.history.specs.Turns.{AnyTurn}
+use Rattle.history.specs.Histories.{moment, Lives}
+use Rattle.history.specs.Runs.{TableMade, Makes, Ran, Runs}
+use Rattle.history.specs.declared.turn.Asked.{Asked}
+use Rattle.history.specs.declared.turn.Answer.{Answer}
+use Rattle.history.proofs.Answers.{not_refused, did}
+use Rattle.history.proofs.Standing.{own_memory, same_length}
+
+module _ {Header Rule Row : Type 0} (k : Meaning Header Rule Row) (opened : ℕ) (asked : Asked (List ℕ → ℕ)) (lines : List (Line Row)) (area tally : List ℕ) where
+  abbrev checks : List (Bool × Refusal)
+  checks = lines_checks opened (length lines) ++ choice_checks k (rules_of k lines) asked.limits (length tally) (length area)
+
+  module _ (counted : List ℕ) (measured : Shape) (choice : Choice) where
+    abbrev IsMeasured : Type 0
+    IsMeasured = Measured k opened (length area) asked.judge asked.limits (memory lines [] tally) (memory lines [] counted) measured choice
+
+    lay_passes : verdict checks ≡ Ok tt → IsMeasured → verdict (memory_checks measured (length lines) (length area) ++ room_checks k (rules_of k lines) measured.bits (length counted) (length area)) ≡ Ok tt
+    lay_passes passed is =
+        let rules = rules_of k lines in
+        let fine = all_pass checks passed in
+        let many : length lines ≡ opened = same_length (length lines) opened fine.0 in
+        let none = ltb-false (length area) _ fine.1.1.1.0 in
+        let reached = bits_reached k rules (length area) asked.judge asked.limits choice none is.choice in
+        let asks = sym (verdict_behind (lines_checks opened (length lines)) (choice_checks k rules asked.limits (length tally) (length area)) (rw fine.0 refl)) ∙ passed in
+        let room = chosen_room k rules choice.bits asked.limits (length tally) (length area) asks reached.few reached.fits in
+        let long : length counted ≡ length tally = ap length is.tally ∙ length-replicate (length tally) 0 in
+        verdict_behind (memory_checks measured (length lines) (length area)) (room_checks k rules measured.bits (length counted) (length area)) (own_memory k measured (length lines) (length area) (many ∙ sym is.table.lines) (sym is.table.area))
+        ∙ ap₂ (λ bits n. verdict (room_checks k rules bits n (length area))) is.table.bits long
+        ∙ room
+
+    -- so laying isn't refused
+    pub never_refused : {A F : Type 0} (view : A → Shape) (tell : Refusal → F) (laid after : List ℕ) (fault : F) → verdict checks ≡ Ok tt → IsMeasured → Lays k measured (memory lines area counted) (memory lines laid after) view tell (Err fault) → ⊥
+    never_refused view tell laid after fault passed is refused = not_refused tell (λ made. Laid k measured (memory lines area counted) (memory lines laid after) (view made)) (memory lines area counted) (memory lines laid after) _ fault (lay_passes passed is) refused
+
+    pub table_made : (laid after : List ℕ) (table : Shape) → verdict checks ≡ Ok tt → IsMeasured → Laid k measured (memory lines area counted) (memory lines laid after) table → TableMade k opened asked (memory lines area tally) (memory lines laid after) table choice
+    table_made laid after table passed is is_laid = record {
+      made = record {
+        opened = opened;
+        measured = measured;
+        tally_1 = tally;
+        tally_2 = counted;
+        tally_3 = counted;
+        tally_4 = after;
+        area = area;
+        long = refl;
+        measures = done (λ (r : Refusal). r) (λ (made : Shape × Choice). Measured k opened (length area) asked.judge asked.limits (memory lines [] tally) (memory lines [] counted) made.0 made.1) (memory lines [] tally) (memory lines [] counted) (verdict checks) (measured, choice) passed is;
+        lays = done (λ (r : Refusal). r) (λ made. Laid k measured (memory lines area counted) (memory lines laid after) made) (memory lines area counted) (memory lines laid after) _ table (lay_passes passed is) is_laid;
+      };
+      tally = is_laid.tally ∙ ap (λ n. replicate n 0) (ap length is.tally ∙ length-replicate (length tally) 0);
+    }
+
+  -- what was made, and what was carried out on it
+  pub ran : (rest laid made_tally left_tally : List ℕ) (turns : List (AnyTurn Rule Header)) (before after : List Answer) (left : List (Line Row)) (first table : Shape) (choice : Choice)
+      → TableMade k opened asked (memory lines area tally) (memory lines rest made_tally) first choice
+      → Lives k (moment first lines rest) (take (length before) turns) (take (length turns) after) (moment table left laid)
+      → drop (length turns) after ≡ drop (length turns) before
+      → (made_tally ≡ zeros made_tally → left_tally ≡ zeros made_tally)
+      → Ran k opened asked (memory lines area tally) (memory left laid left_tally) turns before after table choice
+  ran rest laid made_tally left_tally turns before after left first table choice made lived behind zero =
+      let as_long : length made_tally ≡ length tally = ap length made.tally ∙ length-replicate (length tally) 0 in
+      let still : zeros made_tally ≡ zeros tally = ap (λ n. replicate n 0) as_long in
+      record { history = record { first = moment first lines rest; made = made.made; lived = lived }; behind = behind; tally = zero (made.tally ∙ sym still) ∙ still }
+
+  module _ {A F : Type 0} (view : A → Shape × Choice) (tell : Refusal → F) (counted : List ℕ) (x : A) (measures : Measures k opened (length area) asked.judge asked.limits (memory lines [] tally) (memory lines [] counted) view tell (Ok x)) where
+    measured_so : (verdict checks ≡ Ok tt) × IsMeasured counted (view x).0 (view x).1
+    measured_so = did tell (λ made. IsMeasured counted (view made).0 (view made).1) (memory lines [] tally) (memory lines [] counted) (verdict checks) x measures
+
+    module _ {B G : Type 0} (show : B → Shape) (say : Refusal → G) (laid after : List ℕ) where
+      -- a table that was laid after its measuring
+      pub makes : {C H : Type 0} (look : C → Shape × Choice) (tell_all : Refusal → H) (y : B) (z : C) → look z ≡ (show y, (view x).1) → Lays k (view x).0 (memory lines area counted) (memory lines laid after) show say (Ok y) → Makes k opened asked (memory lines area tally) (memory lines laid after) look tell_all (Ok z)
+      makes look tell_all y z is lays =
+          let is_laid = (did say (λ made. Laid k (view x).0 (memory lines area counted) (memory lines laid after) (show made)) (memory lines area counted) (memory lines laid after) _ y lays).1 in
+          done tell_all (λ made. TableMade k opened asked (memory lines area tally) (memory lines laid after) (look made).0 (look made).1) (memory lines area tally) (memory lines laid after) (verdict checks) z measured_so.0
+          (subst (λ pair. TableMade k opened asked (memory lines area tally) (memory lines laid after) pair.0 pair.1) (sym is) (table_made counted (view x).0 (view x).1 laid after (show y) measured_so.0 measured_so.1 is_laid))
+
+      -- it cannot be refused
+      pub makes_anyway : {Answer : Type 0} (fault : G) → Lays k (view x).0 (memory lines area counted) (memory lines laid after) show say (Err fault) → Answer
+      makes_anyway fault lays = absurd (never_refused counted (view x).0 (view x).1 show say laid after fault measured_so.0 measured_so.1 lays)
+
+  -- a run, from a table that was made and calls that were carried out on it
+  pub runs : {A F B G : Type 0} (view : A → Shape × Choice) (tell : Refusal → F) (look : B → Shape × Choice) (tell_all : Refusal → G) (x : A) (y : B) (rest laid made_tally left_tally : List ℕ) (turns : List (AnyTurn Rule Header)) (before after : List Answer) (left : List (Line Row)) (table : Shape)
+      → look y ≡ (table, (view x).1)
+      → Makes k opened asked (memory lines area tally) (memory lines rest made_tally) view tell (Ok x)
+      → (length made_tally ≡ length tally → Lives k (moment (view x).0 lines rest) (take (length before) turns) (take (length turns) after) (moment table left laid))
+      → drop (length turns) after ≡ drop (length turns) before
+      → (made_tally ≡ zeros made_tally → left_tally ≡ zeros made_tally)
+      → Runs k opened asked (memory lines area tally) (memory left laid left_tally) turns before after look tell_all (Ok y)
+  runs view tell look tell_all x y rest laid made_tally left_tally turns before after left table is makes_it lived behind zero =
+      let made = did tell (λ made. TableMade k opened asked (memory lines area tally) (memory lines rest made_tally) (view made).0 (view made).1) (memory lines area tally) (memory lines rest made_tally) (verdict checks) x makes_it in
+      let as_long : length made_tally ≡ length tally = ap length made.1.tally ∙ length-replicate (length tally) 0 in
+      record {
+        answers = done tell_all (λ made. Ran k opened asked (memory lines area tally) (memory left laid left_tally) turns before after (look made).0 (look made).1) (memory lines area tally) (memory left laid left_tally) (verdict checks) y made.0
+            (subst (λ pair. Ran k opened asked (memory lines area tally) (memory left laid left_tally) turns before after pair.0 pair.1) (sym is) (ran rest laid made_tally left_tally turns before after left (view x).0 table (view x).1 made.1 (lived as_long) behind zero));
+        kept = tt;
+      }

@@ -1,0 +1,43 @@
+-- A run: a table is made over lent memory, and calls are carried out on it.
+--     start_of      what the table is made of
+--     run_checks    what a run refuses: what measuring the lines for the area does
+--     Makes         making the table
+--     Runs          the whole run: it is a history, with an answer for each call for which there is a place
+-- Assumes nothing.
+use Rattle.std.specs.Prelude.{◌≡◌, ℕ, Bool, List, ◌++◌, length, take, drop, IfErr, Result}
+use Rattle.kinds.specs.Meaning.{Meaning}
+use Rattle.kinds.specs.Lines.{rules_of}
+use Rattle.choice.specs.declared.choice.Choice.{Choice}
+use Rattle.table.specs.Checks.{verdict, lines_checks, choice_checks}
+use Rattle.table.specs.Calls.{Memory, zeros, Answers}
+use Rattle.table.specs.declared.refusal.Refusal.{Refusal}
+use Rattle.table.specs.declared.shape.Shape.{Shape}
+use Rattle.history.specs.Turns.{AnyTurn}
+use Rattle.history.specs.Histories.{moment, Start, Made, History}
+use Rattle.history.specs.declared.turn.Asked.{Asked}
+use Rattle.history.specs.declared.turn.Answer.{Answer}
+
+module _ {Header Rule Row : Type 0} (k : Meaning Header Rule Row) (opened : ℕ) (asked : Asked (List ℕ → ℕ)) (found left : Memory Row) where
+  abbrev pub start_of : Start Row
+  start_of = record { lines = found.lines; room = length found.area; asked = asked }
+
+  abbrev pub run_checks : List (Bool × Refusal)
+  run_checks = lines_checks opened (length found.lines) ++ choice_checks k (rules_of k found.lines) asked.limits (length found.tally) (length found.area)
+
+  pub record TableMade (table : Shape) (choice : Choice) : Type 0 where
+    pub made : Made k start_of choice (moment table left.lines left.area)
+    pub tally : left.tally ≡ zeros found.tally
+
+  abbrev pub Makes : {A F : Type 0} → (A → Shape × Choice) → (Refusal → F) → Result A F → Type 0
+  Makes view tell = Answers tell (λ made. TableMade (view made).0 (view made).1) found left (verdict run_checks)
+
+  module _ (turns : List (AnyTurn Rule Header)) (before after : List Answer) where
+    pub record Ran (table : Shape) (choice : Choice) : Type 0 where
+      pub history : History k start_of choice (take (length before) turns) (take (length turns) after) (moment table left.lines left.area)
+      pub behind : drop (length turns) after ≡ drop (length turns) before
+      pub tally : left.tally ≡ zeros found.tally
+
+    pub record Runs {A F : Type 0} (view : A → Shape × Choice) (tell : Refusal → F) (answer : Result A F) : Type 0 where
+      pub answers : Answers tell (λ made. Ran (view made).0 (view made).1) found left (verdict run_checks) answer
+      -- a refused run answers no call
+      pub kept : IfErr answer (λ _. after ≡ before)
