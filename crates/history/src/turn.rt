@@ -12,6 +12,7 @@ pub struct Asked<J> {
 }
 
 // A call on a laid table. Types of rules, headers and judges and no kind: it names no function of a kind.
+#[derive(Drop)]
 pub enum Call<R, H, J> {
     Put { line: usize, rule: R },
     Strike { line: usize },
@@ -20,6 +21,7 @@ pub enum Call<R, H, J> {
 }
 
 // A call, and how many numbers of the tally it is lent.
+#[derive(Drop)]
 pub struct Turn<R, H, J> {
     pub call: Call<R, H, J>,
     pub tally: usize,
