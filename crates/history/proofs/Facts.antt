@@ -6,7 +6,7 @@ use Rattle.kinds.specs.Lines.{rules_of}
 use Rattle.blocks.specs.Blocks.{table_size, Fits}
 use Rattle.choice.specs.Choice.{FitsIn, IsChoice}
 use Rattle.choice.specs.declared.choice.Choice.{Choice}
-use Rattle.choice.proofs.Whole.{only_choice, bits_reached, settled_unbettered}
+use Rattle.choice.proofs.Whole.{only_choice, bits_reached, few_tries, settled_unbettered}
 use Rattle.layout.specs.Layout.{laid}
 use Rattle.layout.proofs.Laid.{length_laid}
 use Rattle.table.specs.Checks.{verdict, memory_checks, lines_checks, room_checks, choice_checks}
@@ -33,6 +33,7 @@ module _ {Header Rule Row : Type 0} (k : Meaning Header Rule Row) where
     is = is;
     only = only_choice k rules room asked.judge asked.limits choice is;
     reached = bits_reached k rules room asked.judge asked.limits choice none is;
+    tries = few_tries k rules room asked.judge asked.limits choice is;
     unbettered = settled_unbettered k rules room asked.judge asked.limits choice is;
   }
 

@@ -1,5 +1,5 @@
 -- A table stands: its memory is as long as it says, and its area is the one that laying gives. What follows for its calls.
-use Rattle.std.proofs.Common.{◌≡◌, ℕ, false, List, length, Some, None, Ok, Err, Option, Result, not, eqb, slice_get, slice_set, IsSomeAnd, sym, refl, ap, ◌∙◌, subst}
+use Rattle.std.proofs.Common.{◌≡◌, ℕ, false, List, length, Ok, Err, Option, Result, not, eqb, slice_set, sym, refl, ap, ◌∙◌, subst}
 use Rattle.std.proofs.lemmas.Bool.{eq-eqb, eqb-true, not-false}
 use Rattle.std.proofs.lemmas.List.{length-set}
 use Rattle.kinds.specs.Meaning.{Meaning, Lawful}
@@ -14,7 +14,7 @@ use Rattle.layout.proofs.Laid.{length_laid}
 use Rattle.layout.proofs.Looks.{finds_lowest}
 use Rattle.table.specs.Refusals.{at, told, of_spoilt}
 use Rattle.table.specs.Checks.{verdict, memory_checks}
-use Rattle.table.specs.Lines.{IsEmptied, Replaced}
+use Rattle.table.specs.Lines.{Replaced}
 use Rattle.table.specs.Calls.{laid_for, looks_up}
 use Rattle.table.specs.declared.refusal.Refusal.{Refusal}
 use Rattle.table.specs.declared.shape.Shape.{Shape}
@@ -57,13 +57,6 @@ module _ {Header Rule Row : Type 0} (k : Meaning Header Rule Row) where
 
   pub replaced_length : (line : ℕ) (Sort : Line Row → Type 0) (found left : List (Line Row)) → Replaced line Sort found left → length left ≡ length found
   replaced_length line Sort found left r = ap length r.2 ∙ length-set found line r.0
-
-  emptied_at : (o : Option (Line Row)) (new : Line Row) → IsSomeAnd o (λ old. new ≡ record { mark = false; row = old.row }) → rule_of k new ≡ None
-  emptied_at None new is = absurd is
-  emptied_at (Some old) new is = ap (rule_of k) is
-
-  pub emptied_none : (lines : List (Line Row)) (line : ℕ) (new : Line Row) → IsEmptied lines line new → rule_of k new ≡ None
-  emptied_none lines line new is = emptied_at (slice_get lines line) new is
 
   -- what is left where some lines were laid for a table
   pub relaid_stands : (room : ℕ) (found left : Moment Row) → Stands room found

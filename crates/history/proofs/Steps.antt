@@ -17,6 +17,7 @@ use Rattle.table.specs.declared.refusal.Refusal.{Refusal}
 use Rattle.table.specs.declared.refusal.Fault.{Fault}
 use Rattle.table.specs.declared.shape.Shape.{Shape}
 use Rattle.table.proofs.Calls.{all_pass, verdict_behind, err_ok}
+use Rattle.table.proofs.Lines.{emptied_none}
 use Rattle.history.specs.Turns.{AnyCall, line_of, of_change, of_choice, of_look_up}
 use Rattle.history.specs.Plain.{Plain, plain_checks, with_rule, with_bits, Says}
 use Rattle.history.specs.Histories.{Moment, lending, Step}
@@ -26,7 +27,7 @@ use Rattle.history.specs.declared.turn.Call.TheVariants.{Put, Strike, Choose, Lo
 use Rattle.history.specs.declared.turn.Answer.{Answer}
 use Rattle.history.specs.declared.turn.Answer.TheVariants.{Refused}
 use Rattle.history.proofs.Answers.{cases}
-use Rattle.history.proofs.Standing.{Stands, own_memory, stands_finds, replaced_rules, replaced_length, emptied_none, relaid_stands}
+use Rattle.history.proofs.Standing.{Stands, own_memory, stands_finds, replaced_rules, replaced_length, relaid_stands}
 
 module _ {Header Rule Row : Type 0} (k : Meaning Header Rule Row) (room : ℕ) where
   -- what one call on a table that stands owes

@@ -1,6 +1,6 @@
 -- What holds after every history.
 --     plain_of         the plain book that a moment's lines and table are
---     Certified        what is known of a choice: it is the one that the definition reaches, and where it says settled no exchange betters it
+--     Certified        what is known of a choice: it is the one that the definition reaches, within the limits, and where it says settled no exchange betters it
 --     SameAsPlain      the plain book, fed the same calls, gives the same answers and is what the lines and the table are at the end
 --     FindsTheLowest   a look-up of any header names the lowest line that matches
 --     Canonical        the area is the one that laying gives
@@ -8,7 +8,7 @@
 --     AllCertified     each choice is certified, the first included
 --     Facts            all of these
 -- Assumes nothing.
-use Rattle.std.specs.Prelude.{◌≡◌, ℕ, List, length, Option}
+use Rattle.std.specs.Prelude.{◌≡◌, ℕ, ◌≤◌, List, length, Option}
 use Rattle.kinds.specs.Meaning.{Meaning}
 use Rattle.kinds.specs.Lines.{rules_of}
 use Rattle.choice.specs.Choice.{Reached, FitsIn, IsChoice, IsOnlyChoice, UnbetteredIfSettled}
@@ -32,6 +32,7 @@ module _ {Header Rule Row : Type 0} (k : Meaning Header Rule Row) where
     pub is : IsChoice k rules room asked.judge asked.limits choice
     pub only : IsOnlyChoice k rules room asked.judge asked.limits choice
     pub reached : Reached (FitsIn k rules room) k.width asked.limits.most_bits choice.bits
+    pub tries : choice.tries ≤ asked.limits.most_tries
     pub unbettered : UnbetteredIfSettled k rules room asked.judge choice
 
   module _ (start : Start Row) (choice : Choice) (turns : List (AnyTurn Rule Header)) (answers : List Answer) (last : Moment Row) where

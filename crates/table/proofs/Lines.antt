@@ -1,5 +1,5 @@
 -- A line of a list, and what the checks find of it.
-use Rattle.std.proofs.Common.{◌≡◌, ℕ, ◌<◌, List, length, get_or, Some, None, Ok, Err, is_none, cond, refl, ap, ◌∙◌, arith, slice_get, slice_set, ap₂, Option}
+use Rattle.std.proofs.Common.{◌≡◌, ℕ, false, ◌<◌, List, length, get_or, Some, None, Ok, Err, is_none, cond, refl, ap, ◌∙◌, arith, slice_get, slice_set, ap₂, Option, IsSomeAnd}
 use Rattle.std.proofs.lemmas.Bool.{lt-leb}
 use Rattle.std.proofs.lemmas.List.{get_or-map, length-map, map-set}
 use Rattle.std.proofs.lemmas.Option.{slice_get_within, get_or_from_slice_get}
@@ -7,7 +7,7 @@ use Rattle.kinds.specs.Meaning.{Meaning}
 use Rattle.kinds.specs.Lines.{rule_of, rules_of}
 use Rattle.kinds.specs.declared.line.Line.{Line}
 use Rattle.table.specs.Checks.{verdict, strike_checks}
-use Rattle.table.specs.Lines.{Replaced}
+use Rattle.table.specs.Lines.{IsEmptied, Replaced}
 use Rattle.table.specs.declared.refusal.Refusal.TheVariants.{EmptyLine}
 
 module _ {Header Rule Row : Type 0} (k : Meaning Header Rule Row) where
@@ -21,6 +21,14 @@ module _ {Header Rule Row : Type 0} (k : Meaning Header Rule Row) where
 
   pub rules_of_replaced : (lines : List (Line Row)) (place line : ℕ) (new : Line Row) (o : Option Rule) → place ≡ line → rule_of k new ≡ o → rules_of k (slice_set lines place new) ≡ slice_set (rules_of k lines) line o
   rules_of_replaced lines place line new o at is = map-set (rule_of k) lines place new ∙ ap₂ (slice_set (rules_of k lines)) at is
+
+  -- an emptied line holds no rule
+  emptied_at : (o : Option (Line Row)) (new : Line Row) → IsSomeAnd o (λ old. new ≡ record { mark = false; row = old.row }) → rule_of k new ≡ None
+  emptied_at None new is = absurd is
+  emptied_at (Some old) new is = ap (rule_of k) is
+
+  pub emptied_none : (lines : List (Line Row)) (line : ℕ) (new : Line Row) → IsEmptied lines line new → rule_of k new ≡ None
+  emptied_none lines line new is = emptied_at (slice_get lines line) new is
 
 pub replaced : {Row : Type 0} (Sort : Line Row → Type 0) (lines : List (Line Row)) (place line : ℕ) (new : Line Row) → place ≡ line → Sort new → Replaced line Sort lines (slice_set lines place new)
 replaced Sort lines place line new at sort = (new, sort, ap (λ (p : ℕ). slice_set lines p new) at)

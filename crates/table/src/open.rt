@@ -73,6 +73,7 @@ impl<K: Kind> OpenBook<K> {
     }
 
     // The same, told without its line.
+    #[tactic(auto, using(crate::proofs::Books::put_done))]
     fn try_put(
         &self,
         lines: &mut [Line<K::Row>],
@@ -96,6 +97,7 @@ impl<K: Kind> OpenBook<K> {
     }
 
     // The same, told without its line.
+    #[tactic(auto, using(crate::proofs::Books::strike_done))]
     fn try_strike(&self, lines: &mut [Line<K::Row>], line: usize) -> Result<(), Refusal>
         ensures { StrikesInBook K.meaning self.now.lines (memory lines.old [] []) (memory lines.new [] []) (λ refusal. refusal) line result }
     {
