@@ -1,6 +1,6 @@
 -- Making a table: what was measured for an area can be laid in it, and what is made and carried out is a history.
-use Rattle.std.proofs.Common.{◌≡◌, ℕ, Bool, List, [], ◌++◌, length, take, drop, replicate, Ok, Err, sym, refl, ap, ap₂, ◌∙◌, subst}
-use Rattle.std.proofs.lemmas.List.{length-replicate}
+use Rattle.std.proofs.Common.{◌≡◌, ℕ, Bool, List, [], ◌++◌, map, length, take, drop, replicate, Ok, Err, sym, refl, ap, ap₂, ◌∙◌, subst}
+use Rattle.std.proofs.lemmas.List.{length-map, length-replicate}
 use Rattle.std.proofs.lemmas.Bool.{ltb-false}
 use Rattle.kinds.specs.Meaning.{Meaning}
 use Rattle.kinds.specs.Lines.{rules_of}
@@ -11,12 +11,14 @@ use Rattle.table.specs.Checks.{verdict, lines_checks, memory_checks, room_checks
 use Rattle.table.specs.Calls.{memory, zeros, Measured, Measures, Laid, Lays}
 use Rattle.table.specs.declared.refusal.Refusal.{Refusal}
 use Rattle.table.specs.declared.shape.Shape.{Shape}
+use Rattle.table.specs.declared.laid.LaidTable.{LaidTable}
 use Rattle.table.proofs.Calls.{all_pass, verdict_behind, done}
 use Rattle.table.proofs.Rooms.{chosen_room}
-use Rattle.history.specs.Turns.{AnyTurn}
+use Rattle.history.specs.Turns.{AnyTurn, lent}
 use Rattle.history.specs.Histories.{moment, Lives}
-use Rattle.history.specs.Runs.{TableMade, Makes, Ran, Runs}
+use Rattle.history.specs.Runs.{numbers_of, TableMade, Makes, Ran, Runs}
 use Rattle.history.specs.declared.turn.Asked.{Asked}
+use Rattle.history.specs.declared.turn.Turn.{Turn}
 use Rattle.history.specs.declared.turn.Answer.{Answer}
 use Rattle.history.proofs.Answers.{not_refused, did}
 use Rattle.history.proofs.Standing.{own_memory, same_length}
@@ -92,19 +94,22 @@ module _ {Header Rule Row : Type 0} (k : Meaning Header Rule Row) (opened : ℕ)
       pub makes_anyway : {Answer : Type 0} (fault : G) → Lays k (view x).0 (memory lines area counted) (memory lines laid after) show say (Err fault) → Answer
       makes_anyway fault lays = absurd (never_refused counted (view x).0 (view x).1 show say laid after fault measured_so.0 measured_so.1 lays)
 
-  -- a run, from a table that was made and calls that were carried out on it
-  pub runs : {A F B G : Type 0} (view : A → Shape × Choice) (tell : Refusal → F) (look : B → Shape × Choice) (tell_all : Refusal → G) (x : A) (y : B) (rest laid made_tally left_tally : List ℕ) (turns : List (AnyTurn Rule Header)) (before after : List Answer) (left : List (Line Row)) (table : Shape)
-      → look y ≡ (table, (view x).1)
-      → Makes k opened asked (memory lines area tally) (memory lines rest made_tally) view tell (Ok x)
-      → (length made_tally ≡ length tally → Lives k (moment (view x).0 lines rest) (take (length before) turns) (take (length turns) after) (moment table left laid))
+  -- a run, from a table that was made and turns that were carried out on it
+  pub run_is : {K J F : Type 0} (cost : J → List ℕ → ℕ) (tell : Refusal → F) (turns : List (Turn Rule Header J)) (before after : List Answer) (left : List (Line Row)) (laid left_tally rest made_tally : List ℕ) (first table : LaidTable K) (choice : Choice)
+      → Makes k opened asked (memory lines area tally) (memory lines rest made_tally) numbers_of tell (Ok (first, choice))
+      → Lives k (moment first.shape lines rest) (take (length before) (map (lent cost (length made_tally)) turns)) (take (length turns) after) (moment table.shape left laid)
       → drop (length turns) after ≡ drop (length turns) before
       → (made_tally ≡ zeros made_tally → left_tally ≡ zeros made_tally)
-      → Runs k opened asked (memory lines area tally) (memory left laid left_tally) turns before after look tell_all (Ok y)
-  runs view tell look tell_all x y rest laid made_tally left_tally turns before after left table is makes_it lived behind zero =
-      let made = did tell (λ made. TableMade k opened asked (memory lines area tally) (memory lines rest made_tally) (view made).0 (view made).1) (memory lines area tally) (memory lines rest made_tally) (verdict checks) x makes_it in
+      → Runs k opened asked (memory lines area tally) (memory left laid left_tally) (map (lent cost (length tally)) turns) before after numbers_of tell (Ok (table, choice))
+  run_is {K} cost tell turns before after left laid left_tally rest made_tally first table choice makes_it lived behind zero =
+      let made = did tell (λ (made : LaidTable K × Choice). TableMade k opened asked (memory lines area tally) (memory lines rest made_tally) made.0.shape made.1) (memory lines area tally) (memory lines rest made_tally) (verdict checks) (first, choice) makes_it in
       let as_long : length made_tally ≡ length tally = ap length made.1.tally ∙ length-replicate (length tally) 0 in
+      let asked_turns = map (lent cost (length tally)) turns in
+      let count = length-map turns (lent cost (length tally)) in
+      let lived_so = subst (λ (n : ℕ). Lives k (moment first.shape lines rest) (take (length before) asked_turns) (take n after) (moment table.shape left laid)) (sym count)
+        (subst (λ (n : ℕ). Lives k (moment first.shape lines rest) (take (length before) (map (lent cost n) turns)) (take (length turns) after) (moment table.shape left laid)) as_long lived) in
       record {
-        answers = done tell_all (λ made. Ran k opened asked (memory lines area tally) (memory left laid left_tally) turns before after (look made).0 (look made).1) (memory lines area tally) (memory left laid left_tally) (verdict checks) y made.0
-            (subst (λ pair. Ran k opened asked (memory lines area tally) (memory left laid left_tally) turns before after pair.0 pair.1) (sym is) (ran rest laid made_tally left_tally turns before after left (view x).0 table (view x).1 made.1 (lived as_long) behind zero));
+        answers = done tell (λ (made : LaidTable K × Choice). Ran k opened asked (memory lines area tally) (memory left laid left_tally) asked_turns before after made.0.shape made.1) (memory lines area tally) (memory left laid left_tally) (verdict checks) (table, choice) made.0
+          (ran rest laid made_tally left_tally asked_turns before after left first.shape table.shape choice made.1 lived_so (subst (λ (n : ℕ). drop n after ≡ drop n before) (sym count) behind) zero);
         kept = tt;
       }

@@ -1,4 +1,5 @@
 -- A run: a table is made over lent memory, and calls are carried out on it.
+--     numbers_of    the numbers of a table that was made, and the choice made for it
 --     start_of      what the table is made of
 --     run_checks    what a run refuses: what measuring the lines for the area does
 --     Makes         making the table
@@ -12,10 +13,14 @@ use Rattle.table.specs.Checks.{verdict, lines_checks, choice_checks}
 use Rattle.table.specs.Calls.{Memory, zeros, Answers}
 use Rattle.table.specs.declared.refusal.Refusal.{Refusal}
 use Rattle.table.specs.declared.shape.Shape.{Shape}
+use Rattle.table.specs.declared.laid.LaidTable.{LaidTable}
 use Rattle.history.specs.Turns.{AnyTurn}
 use Rattle.history.specs.Histories.{moment, Start, Made, History}
 use Rattle.history.specs.declared.turn.Asked.{Asked}
 use Rattle.history.specs.declared.turn.Answer.{Answer}
+
+abbrev pub numbers_of : {K : Type 0} → LaidTable K × Choice → Shape × Choice
+numbers_of made = (made.0.shape, made.1)
 
 module _ {Header Rule Row : Type 0} (k : Meaning Header Rule Row) (opened : ℕ) (asked : Asked (List ℕ → ℕ)) (found left : Memory Row) where
   abbrev pub start_of : Start Row

@@ -3,7 +3,7 @@ ghost use Rattle.std.specs.Prelude.{◌≡◌, length, map};
 ghost use Rattle.table.specs.Refusals.{back};
 ghost use Rattle.table.specs.Calls.{memory};
 ghost use Rattle.history.specs.Turns.{priced, lent};
-ghost use Rattle.history.specs.Runs.{Makes, Runs};
+ghost use Rattle.history.specs.Runs.{numbers_of, Makes, Runs};
 ghost use Rattle.history.specs.Facts.{ThreeFacts};
 
 use super::carrying::carry_out;
@@ -21,7 +21,7 @@ fn make<K: Kind, J: Judge>(
     tally: &mut [u32],
     asked: &Asked<J>,
 ) -> Result<(LaidTable<K>, Choice), Refused<OpenBook<K>>>
-    ensures { Makes K.meaning book.lines (priced J.cost asked.now) (memory lines.now area.old tally.old) (memory lines.now area.new tally.new) (λ made. (made.0.shape, made.1)) (back book) result }
+    ensures { Makes K.meaning book.lines (priced J.cost asked.now) (memory lines.now area.old tally.old) (memory lines.now area.new tally.new) numbers_of (back book) result }
 {
     let (measured, choice) = book.measure(lines, area.len(), &asked.judge, asked.limits, tally)?;
     match measured.lay(lines, area, tally) {
@@ -43,7 +43,7 @@ pub fn run<K: Kind, J: Judge>(
     turns: &[Turn<K::Rule, K::Header, J>],
     answers: &mut [Answer],
 ) -> Result<(LaidTable<K>, Choice), Refused<OpenBook<K>>>
-    ensures run { Runs K.meaning book.lines (priced J.cost asked.now) (memory lines.old area.old tally.old) (memory lines.new area.new tally.new) (map (lent J.cost (length tally.old)) turns.now) answers.old answers.new (λ made. (made.0.shape, made.1)) (back book) result }
+    ensures run { Runs K.meaning book.lines (priced J.cost asked.now) (memory lines.old area.old tally.old) (memory lines.new area.new tally.new) (map (lent J.cost (length tally.old)) turns.now) answers.old answers.new numbers_of (back book) result }
     ensures facts { ThreeFacts K.meaning }
 {
     let (mut table, choice) = make(book, lines, area, tally, asked)?;
