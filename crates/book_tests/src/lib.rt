@@ -1,4 +1,4 @@
-// Examples of books, tables and histories, run: at their limits, with spoilt areas, and with judges of two sorts in one history.
+// Examples of books, tables and histories, run: at their limits, with spoilt areas, with judges of two sorts in one history, and for packets.
 #![tactic(auto)]
 
 mod either;
@@ -6,6 +6,8 @@ mod either;
 mod history_tests;
 #[cfg(test)]
 mod limits_tests;
+#[cfg(test)]
+mod packet_tests;
 #[cfg(test)]
 mod spoilt_tests;
 #[cfg(test)]

@@ -7,5 +7,3 @@ mod bits_tests;
 mod laying_tests;
 #[cfg(test)]
 mod looking_tests;
-#[cfg(test)]
-mod packet_tests;
