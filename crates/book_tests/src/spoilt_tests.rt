@@ -14,7 +14,7 @@ fn defined(answer: Result<(Option<usize>, usize), Fault>) -> bool {
     }
 }
 
-// Whether all frames get defined answers.
+// Whether all frames get defined answers, and defined blocks.
 fn all_defined(table: &LaidTable<Bridge>, lines: &[Line<Row>; 7], area: &[u32; 17]) -> bool {
     for first in 0..=255u8 {
         let header = seven_lines::header(first);
@@ -33,6 +33,15 @@ fn all_defined(table: &LaidTable<Bridge>, lines: &[Line<Row>; 7], area: &[u32; 1
     true
 }
 
+// Whether some frame is refused.
+fn some_refused(table: &LaidTable<Bridge>, lines: &[Line<Row>; 7], area: &[u32; 17]) -> bool {
+    (0..=255u8).any(|first| {
+        table
+            .look_up(lines, area, &seven_lines::header(first))
+            .is_err()
+    })
+}
+
 #[test]
 fn answers_are_defined(rt: HostRuntime) -> Result<(), FaultCode> {
     let mut lines = seven_lines::lines();
@@ -40,6 +49,9 @@ fn answers_are_defined(rt: HostRuntime) -> Result<(), FaultCode> {
     let table = table(&mut lines, &mut area)?;
     let laid = area;
     let mut tally = [0u32; 4];
+    assert!(rt; !some_refused(&table, &lines, &area), "as it was laid");
+    let mut refused = false;
+    let mut answered = false;
     for at in 0..17 {
         for number in [0u32, 1, 6, 7, 12, 13, 17, u32::MAX] {
             area[at] = number;
@@ -47,11 +59,20 @@ fn answers_are_defined(rt: HostRuntime) -> Result<(), FaultCode> {
                 all_defined(&table, &lines, &area),
                 "place {at}, number {number}"
             );
+            if some_refused(&table, &lines, &area) {
+                refused = true;
+            } else {
+                answered = true;
+            }
             if let Some(rule) = kinds::rule_of::<Bridge>(&lines[0]) {
                 table.put(&mut lines, &mut area, &mut tally, 0, &rule)?;
             }
             assert_eq!(rt; area, laid, "laid again after place {at}, number {number}");
         }
     }
+    assert!(rt;
+        refused && answered,
+        "some spoilt areas refuse a frame, and some answer all"
+    );
     Ok(())
 }

@@ -48,10 +48,10 @@ module _ {Header Rule Row : Type 0} (k : Meaning Header Rule Row) where
       let rules = rules_of k start.lines in
       let lines = length start.lines in
       let area = length made.area in
-      let measured = did _ _ _ _ (verdict (lines_checks made.opened lines ++ choice_checks k rules start.asked.limits (length made.tally_1) start.room)) (made.measured, choice) made.measures in
-      let laid_so = did _ _ _ _ (verdict (memory_checks made.measured lines area ++ room_checks k rules made.measured.bits (length made.tally_3) area)) first.table made.lays in
-      let none = ltb-false start.room (table_size k rules []) (all_pass (lines_checks made.opened lines ++ choice_checks k rules start.asked.limits (length made.tally_1) start.room) measured.0).1.1.1.0 in
-      let passed = all_pass (memory_checks made.measured lines area ++ room_checks k rules made.measured.bits (length made.tally_3) area) laid_so.0 in
+      let measured = did _ _ _ _ (verdict (lines_checks made.opened lines ++ choice_checks k rules start.asked.limits (length made.measuring_found) start.room)) (made.measured, choice) made.measures in
+      let laid_so = did _ _ _ _ (verdict (memory_checks made.measured lines area ++ room_checks k rules made.measured.bits (length made.laying_found) area)) first.table made.lays in
+      let none = ltb-false start.room (table_size k rules []) (all_pass (lines_checks made.opened lines ++ choice_checks k rules start.asked.limits (length made.measuring_found) start.room) measured.0).1.1.1.0 in
+      let passed = all_pass (memory_checks made.measured lines area ++ room_checks k rules made.measured.bits (length made.laying_found) area) laid_so.0 in
       let own = or_parts (not (eqb lines made.measured.lines)) (not (eqb area made.measured.area)) passed.0 in
       let fits : Fits k rules made.measured.bits area = ltb-false area (table_size k rules made.measured.bits) passed.1.1.0 in
       let table : first.table ≡ made.measured = laid_so.1.shape in

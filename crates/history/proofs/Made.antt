@@ -54,10 +54,10 @@ module _ {Header Rule Row : Type 0} (k : Meaning Header Rule Row) (opened : ℕ)
       made = record {
         opened = opened;
         measured = measured;
-        tally_1 = tally;
-        tally_2 = counted;
-        tally_3 = counted;
-        tally_4 = after;
+        measuring_found = tally;
+        measuring_left = counted;
+        laying_found = counted;
+        laying_left = after;
         area = area;
         long = refl;
         measures = done (λ (r : Refusal). r) (λ (made : Shape × Choice). Measured k opened (length area) asked.judge asked.limits (memory lines [] tally) (memory lines [] counted) made.0 made.1) (memory lines [] tally) (memory lines [] counted) (verdict checks) (measured, choice) passed is;
@@ -107,9 +107,9 @@ module _ {Header Rule Row : Type 0} (k : Meaning Header Rule Row) (opened : ℕ)
       let asked_turns = map (lent cost (length tally)) turns in
       let count = length-map turns (lent cost (length tally)) in
       let lived_so = subst (λ (n : ℕ). Lives k (moment first.shape lines rest) (take (length before) asked_turns) (take n after) (moment table.shape left laid)) (sym count)
-        (subst (λ (n : ℕ). Lives k (moment first.shape lines rest) (take (length before) (map (lent cost n) turns)) (take (length turns) after) (moment table.shape left laid)) as_long lived) in
+      (subst (λ (n : ℕ). Lives k (moment first.shape lines rest) (take (length before) (map (lent cost n) turns)) (take (length turns) after) (moment table.shape left laid)) as_long lived) in
       record {
         answers = done tell (λ (made : LaidTable K × Choice). Ran k opened asked (memory lines area tally) (memory left laid left_tally) asked_turns before after made.0.shape made.1) (memory lines area tally) (memory left laid left_tally) (verdict checks) (table, choice) made.0
-          (ran rest laid made_tally left_tally asked_turns before after left first.shape table.shape choice made.1 lived_so (subst (λ (n : ℕ). drop n after ≡ drop n before) (sym count) behind) zero);
+            (ran rest laid made_tally left_tally asked_turns before after left first.shape table.shape choice made.1 lived_so (subst (λ (n : ℕ). drop n after ≡ drop n before) (sym count) behind) zero);
         kept = tt;
       }

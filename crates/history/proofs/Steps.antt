@@ -42,9 +42,6 @@ module _ {Header Rule Row : Type 0} (k : Meaning Header Rule Row) (room : ℕ) w
       verdict_behind (memory_checks found.table (length found.lines) (length found.area)) (checks (length before) (length found.area)) (own_memory k found.table (length found.lines) (length found.area) s.lines s.area)
       ∙ ap₂ (λ t n. verdict (checks t n)) long s.long
 
-  same_plain : (found left : Moment Row) → left.lines ≡ found.lines → left.table ≡ found.table → plain_of k left ≡ plain_of k found
-  same_plain found left lines table = ap₂ (λ ls (t : Shape). record { rules = rules_of k ls; bits = t.bits }) lines table
-
   moment_is : (found left : Moment Row) → left.lines ≡ found.lines → left.area ≡ found.area → left.table ≡ found.table → left ≡ found
   moment_is found left lines area table i = record { table = table i; lines = lines i; area = area i }
 
@@ -59,10 +56,6 @@ module _ {Header Rule Row : Type 0} (k : Meaning Header Rule Row) (room : ℕ) w
         stands = subst (Stands k room) (sym same) s;
         says = subst (λ m. Says k room (plain_of k found) tally call (Refused (at (line_of call) refusal)) (plain_of k m)) (sym same) (Says.refuses failed);
       }
-
-  -- the checks of room, where they pass, tell that the table fits
-  fits_told : (rules : List (Option Rule)) (bits : List ℕ) (tally : ℕ) → verdict (room_checks k rules bits tally room) ≡ Ok tt → Fits k rules bits room
-  fits_told rules bits tally passed = ltb-false room (table_size k rules bits) (all_pass (room_checks k rules bits tally room) passed).1.0
 
   -- a put or a strike, by the rule that its line then has, or none
   module _ (found left : Moment Row) (tally : ℕ) (before after : List ℕ) (line : ℕ) (Sort : Line Row → Type 0) (o : Option Rule) where

@@ -5,7 +5,7 @@
 --     FindsTheLowest   a look-up of any header names the lowest line that matches
 --     Canonical        the area is the one that laying gives
 --     PathIndependent  another history that reaches the same rules and bits in memory of equal lengths holds the same area, and any further calls are answered alike
---     AllCertified     each choice is certified, the first included
+--     AllCertified     each choice is certified: the first, and every choice anew, whatever moment it finds, so each in the history
 --     Facts            all of these
 -- Assumes nothing.
 use Rattle.std.specs.Prelude.{◌≡◌, ℕ, ◌≤◌, List, length, Option}

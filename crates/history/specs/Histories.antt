@@ -55,17 +55,17 @@ module _ {Header Rule Row : Type 0} (k : Meaning Header Rule Row) where
     one_more : {turns : List (AnyTurn Rule Header)} {answers : List Answer} {last left : Moment Row} {turn : AnyTurn Rule Header} {answer : Answer} → Lives first turns answers last → Step last turn.tally turn.call answer left → Lives first (turns ++ turn ∷ []) (answers ++ answer ∷ []) left
 
   pub record Made (start : Start Row) (choice : Choice) (first : Moment Row) : Type 0 where
-    -- the numbers of the book, and the tallies before and after each call, whatever they are
+    -- how many lines were opened, the numbers measured, the tallies that the two calls found and left, and the area found, whatever they are
     pub opened : ℕ
     pub measured : Shape
-    pub tally_1 : List ℕ
-    pub tally_2 : List ℕ
-    pub tally_3 : List ℕ
-    pub tally_4 : List ℕ
+    pub measuring_found : List ℕ
+    pub measuring_left : List ℕ
+    pub laying_found : List ℕ
+    pub laying_left : List ℕ
     pub area : List ℕ
     pub long : length area ≡ start.room
-    pub measures : Measures k opened start.room start.asked.judge start.asked.limits (memory start.lines [] tally_1) (memory start.lines [] tally_2) {F = Refusal} (λ made. made) (λ refusal. refusal) (Ok (measured, choice))
-    pub lays : Lays k measured (memory start.lines area tally_3) (lending first tally_4) {F = Refusal} (λ made. made) (λ refusal. refusal) (Ok first.table)
+    pub measures : Measures k opened start.room start.asked.judge start.asked.limits (memory start.lines [] measuring_found) (memory start.lines [] measuring_left) {F = Refusal} (λ made. made) (λ refusal. refusal) (Ok (measured, choice))
+    pub lays : Lays k measured (memory start.lines area laying_found) (lending first laying_left) {F = Refusal} (λ made. made) (λ refusal. refusal) (Ok first.table)
 
   pub record History (start : Start Row) (choice : Choice) (turns : List (AnyTurn Rule Header)) (answers : List Answer) (last : Moment Row) : Type 0 where
     pub first : Moment Row

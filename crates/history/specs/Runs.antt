@@ -29,6 +29,7 @@ module _ {Header Rule Row : Type 0} (k : Meaning Header Rule Row) (opened : ℕ)
   abbrev pub run_checks : List (Bool × Refusal)
   run_checks = lines_checks opened (length found.lines) ++ choice_checks k (rules_of k found.lines) asked.limits (length found.tally) (length found.area)
 
+  -- what was made, and the tally that is left
   pub record TableMade (table : Shape) (choice : Choice) : Type 0 where
     pub made : Made k start_of choice (moment table left.lines left.area)
     pub tally : left.tally ≡ zeros found.tally
@@ -37,6 +38,7 @@ module _ {Header Rule Row : Type 0} (k : Meaning Header Rule Row) (opened : ℕ)
   Makes view tell = Answers tell (λ made. TableMade (view made).0 (view made).1) found left (verdict run_checks)
 
   module _ (turns : List (AnyTurn Rule Header)) (before after : List Answer) where
+    -- a history with these turns and answers, as many as there are of both; the places behind are as they were
     pub record Ran (table : Shape) (choice : Choice) : Type 0 where
       pub history : History k start_of choice (take (length before) turns) (take (length turns) after) (moment table left.lines left.area)
       pub behind : drop (length turns) after ≡ drop (length turns) before

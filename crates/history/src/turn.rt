@@ -11,7 +11,7 @@ pub struct Asked<J> {
     pub limits: Limits,
 }
 
-// A call on a laid table. Types of rules, headers and judges and no kind: it names no function of a kind.
+// A call on a laid table, by its rules `R`, headers `H` and judges `J`. It has no bound: it only holds them.
 #[derive(Drop)]
 pub enum Call<R, H, J> {
     Put { line: usize, rule: R },

@@ -1,5 +1,8 @@
 -- The calls on books and tables: each is a relation, for all inputs, between what it found, its answer, and what it left.
 --     Memory       lines, area and tally, as a call finds or leaves them; of what it isn't lent it says nothing
+--     memory       these three
+--     zeros        a tally of as many numbers, all zero
+--     tally_left, Untouched   what a call leaves of the tally; what a refusal leaves
 --     Answers      a call: its checks in order, how it tells the refusal of the first that fails, and what it does where none does
 --     Opens, PutsInBook, StrikesInBook, Measures   the calls on an open book
 --     Lays                                         the call on a measured book
@@ -18,7 +21,7 @@ use Rattle.choice.specs.declared.limits.Limits.{Limits}
 use Rattle.layout.specs.Layout.{laid}
 use Rattle.layout.specs.LookUp.{block_in, looked_up}
 use Rattle.table.specs.Refusals.{at, told, of_spoilt, began}
-use Rattle.table.specs.Checks.{verdict, count_checks, lines_checks, memory_checks, put_checks, strike_checks, room_checks, choice_checks}
+use Rattle.table.specs.Checks.{verdict, count_checks, lines_checks, memory_checks, area_checks, put_checks, strike_checks, room_checks, choice_checks}
 use Rattle.table.specs.Lines.{emptied, Holds, IsEmptied, Replaced}
 use Rattle.table.specs.declared.refusal.Refusal.{Refusal}
 use Rattle.table.specs.declared.refusal.Fault.{Fault}
@@ -83,7 +86,7 @@ module _ {Header Rule Row : Type 0} (k : Meaning Header Rule Row) where
       pub table : IsShape opened room chosen.bits shape
       pub tally : left.tally ≡ zeros found.tally
 
-    -- of an answer its shape and its choice are told
+    -- `view` takes the table's numbers and the choice from what the call gives
     abbrev pub Measures : {A F : Type 0} → (A → Shape × Choice) → (Refusal → F) → Result A F → Type 0
     Measures view tell =
         Answers tell (λ made. Measured (view made).0 (view made).1) found left
@@ -94,12 +97,14 @@ module _ {Header Rule Row : Type 0} (k : Meaning Header Rule Row) where
   laid_for table lines area = laid k (rules_of k lines) table.bits (length area)
 
   module _ (table : Shape) (found left : Memory Row) where
+    -- the table has the numbers that were measured, and its area is laid
     pub record Laid (made : Shape) : Type 0 where
       pub shape : made ≡ table
       pub lines : left.lines ≡ found.lines
       pub area : left.area ≡ laid_for table found.lines found.area
       pub tally : left.tally ≡ zeros found.tally
 
+    -- `view` takes the table's numbers from what the call gives
     abbrev pub Lays : {A F : Type 0} → (A → Shape) → (Refusal → F) → Result A F → Type 0
     Lays view tell =
         Answers tell (λ made. Laid (view made)) found left
@@ -110,6 +115,7 @@ module _ {Header Rule Row : Type 0} (k : Meaning Header Rule Row) where
     abbrev change_checks : List (Bool × Refusal) → List (Option Rule) → List (Bool × Refusal)
     change_checks own rules = memory_checks table (length found.lines) (length found.area) ++ own ++ room_checks k rules table.bits (length found.tally) (length found.area)
 
+    -- of a put and of a strike
     abbrev pub table_put_checks : ℕ → Rule → List (Bool × Refusal)
     table_put_checks line rule = change_checks (put_checks (rules_of k found.lines) line) (slice_set (rules_of k found.lines) line (Some rule))
 
@@ -145,9 +151,9 @@ module _ {Header Rule Row : Type 0} (k : Meaning Header Rule Row) where
           pub kept : IfErr answer (λ _. after ≡ table)
 
   module _ (table : Shape) (header : Header) where
-    -- numbers that no table has are told as other memory
+    -- where the area is found spoilt, that is told as other memory
     abbrev pub looks_up : List (Line Row) → (area : List ℕ) → Result (Option ℕ × ℕ) Fault
     looks_up lines area = told (at 0) (verdict (memory_checks table (length lines) (length area)) and_then λ _. of_spoilt (looked_up k (rules_of k lines) table.bits header area))
 
     abbrev pub block_found : (area : List ℕ) → Result (List ℕ) Fault
-    block_found area = told (at 0) (verdict (memory_checks table table.lines (length area)) and_then λ _. of_spoilt (block_in (length table.bits) area (cell_of k table.bits header)))
+    block_found area = told (at 0) (verdict (area_checks table (length area)) and_then λ _. of_spoilt (block_in (length table.bits) area (cell_of k table.bits header)))

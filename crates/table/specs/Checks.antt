@@ -9,6 +9,7 @@
 --     count_checks    a book of so many lines may be opened
 --     lines_checks    lines are as many as were opened
 --     memory_checks   and the area is as long as it was
+--     area_checks     the area alone
 -- Assumes nothing.
 use Rattle.std.specs.Prelude.{ℕ, ◌^◌, Bool, not, ◌||◌, List, [], ◌∷◌, ◌++◌, length, None, Option, Result, is_none, ◌==◌, nat_lt, nat_le, slice_index_or}
 use Rattle.kinds.specs.Checks.{checked}
@@ -31,6 +32,9 @@ lines_checks opened lines = (not (lines == opened), OtherMemory) ∷ []
 
 abbrev pub memory_checks : Shape → (lines area : ℕ) → List (Bool × Refusal)
 memory_checks table lines area = (not (lines == table.lines) || not (area == table.area), OtherMemory) ∷ []
+
+abbrev pub area_checks : Shape → (area : ℕ) → List (Bool × Refusal)
+area_checks table area = (not (area == table.area), OtherMemory) ∷ []
 
 module _ {Rule : Type 0} (rules : List (Option Rule)) where
   abbrev pub put_checks : ℕ → List (Bool × Refusal)

@@ -1,7 +1,7 @@
 -- What calls do to lines.
 --     emptied     a line with its mark cleared, and its row as found
 --     Holds       a line that holds a rule
---     IsEmptied   the emptied line of a list that has a number
+--     IsEmptied   the line of a list that has a number, emptied
 --     Replaced    lines of which one was replaced by a line of some sort
 -- Assumes nothing.
 use Rattle.std.specs.Prelude.{◌≡◌, ℕ, false, List, Some, IsSomeAnd, slice_get, slice_set}

@@ -62,7 +62,7 @@ refusal_text EmptyLine = codes "the line is empty"
 refusal_text TooMuchAsked = codes "too many bits or tries are asked for"
 refusal_text NoRoom = codes "the area is too small"
 refusal_text ShortTally = codes "the tally is too short"
-refusal_text OtherMemory = codes "lines or area are not the table's"
+refusal_text OtherMemory = codes "lines or area are not the book's"
 
 abbrev pub began : Refusal → Bool
 began LineCount = false

@@ -147,7 +147,9 @@ impl<K: Kind> LaidTable<K> {
         ensures answer { MadeOf (λ entries part. part.now ≡ entries) (block_found K.meaning self.now.shape header.now area.now) result }
         ensures facts { (rules : List (Option _)) → length area.now ≡ self.now.shape.area → area.now ≡ laid K.meaning rules self.now.shape.bits (length area.now) → IsOkAnd result (λ part. part.now ≡ block K.meaning rules self.now.shape.bits (cell_of K.meaning self.now.shape.bits header.now)) }
     {
-        self.shape.check(self.shape.lines, area.len())?;
+        if area.len() != self.shape.area {
+            return Err(Refusal::OtherMemory.at(0));
+        }
         Ok(layout::block::<K>(&self.shape.bits, area, header).map_err(Refusal::from)?)
     }
 
@@ -156,9 +158,6 @@ impl<K: Kind> LaidTable<K> {
         ensures { result.lines ≡ self.shape.lines }
     {
         let LaidTable { shape, kind } = self;
-        OpenBook {
-            lines: shape.lines,
-            kind,
-        }
+        OpenBook::again(shape, kind)
     }
 }

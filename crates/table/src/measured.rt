@@ -63,9 +63,6 @@ impl<K: Kind> MeasuredBook<K> {
         ensures { result.lines ≡ self.shape.lines }
     {
         let MeasuredBook { shape, kind } = self;
-        OpenBook {
-            lines: shape.lines,
-            kind,
-        }
+        OpenBook::again(shape, kind)
     }
 }

@@ -12,7 +12,7 @@ use judges::Judge;
 use kinds::{Kind, Line};
 use std::marker::PhantomData;
 
-// The most lines of a book.
+// The most lines of a book, which are the most that a table is made of.
 const MOST_LINES: usize = 16384;
 
 // How many lines it has, tied to their kind.
@@ -52,6 +52,16 @@ impl<K: Kind> OpenBook<K> {
             lines: lines.len(),
             kind: PhantomData,
         })
+    }
+
+    // The book of a table's lines.
+    pub(crate) fn again(shape: Shape, kind: PhantomData<K>) -> OpenBook<K>
+        ensures { result.lines ≡ shape.lines }
+    {
+        OpenBook {
+            lines: shape.lines,
+            kind,
+        }
     }
 
     // Whether so many lines are the book's.

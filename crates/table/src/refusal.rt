@@ -117,7 +117,7 @@ impl fmt::Display for Refusal {
             Refusal::TooMuchAsked => "too many bits or tries are asked for",
             Refusal::NoRoom => "the area is too small",
             Refusal::ShortTally => "the tally is too short",
-            Refusal::OtherMemory => "lines or area are not the table's",
+            Refusal::OtherMemory => "lines or area are not the book's",
         })
     }
 }

@@ -1,8 +1,10 @@
 // A filter: a laid table with the memory that it lies in.
-ghost use Rattle.std.specs.Prelude.{◌≡◌, IfErr};
+ghost use Rattle.std.specs.Prelude.{◌≡◌};
 ghost use Rattle.kinds.specs.Lines.{rules_of};
 ghost use Rattle.bridge.specs.Bridge.{bridge};
 ghost use Rattle.layout.specs.LookUp.{FindsLowest};
+ghost use Rattle.table.specs.Refusals.{at};
+ghost use Rattle.table.specs.Calls.{memory, Strikes};
 ghost use Rattle.worked_book.specs.Filters.{Stands};
 
 use bridge::{Bridge, Header, Row};
@@ -67,7 +69,8 @@ impl<const ROOM: usize> Filter<ROOM> {
 
     // Strikes a line.
     pub(crate) fn strike(&mut self, line: usize) -> Result<(), Fault>
-        ensures { IfErr result (λ _. self.new.lines ≡ self.old.lines) }
+        ensures strike { Strikes bridge self.old.table.shape (memory self.old.lines self.old.area self.old.tally) (memory self.new.lines self.new.area self.new.tally) (at line) line result }
+        ensures table { self.new.table.shape ≡ self.old.table.shape }
     {
         self.table
             .strike(&mut self.lines, &mut self.area, &mut self.tally, line)
