@@ -52,11 +52,11 @@ module _ {Header Rule Row : Type 0} (k : Meaning Header Rule Row) where
       (finds_told law rules m.table.bits h found (finds_lowest k rules m.table.bits m.area h (stands_laid room m s) law found refl))
 
   -- the rules of lines of which one was replaced
-  pub replaced_rules : (line : ℕ) (Sort : Line Row → Type 0) (found left : List (Line Row)) (o : Option Rule) → ((new : Line Row) → Sort new → rule_of k new ≡ o) → Replaced line Sort found left → rules_of k left ≡ slice_set (rules_of k found) line o
-  replaced_rules line Sort found left o holds r = ap (rules_of k) r.2 ∙ rules_of_replaced k found line line r.0 o refl (holds r.0 r.1)
+  pub replaced_rules : (line : ℕ) (IsNew : Line Row → Type 0) (found left : List (Line Row)) (o : Option Rule) → ((new : Line Row) → IsNew new → rule_of k new ≡ o) → Replaced line IsNew found left → rules_of k left ≡ slice_set (rules_of k found) line o
+  replaced_rules line IsNew found left o holds r = ap (rules_of k) r.2 ∙ rules_of_replaced k found line line r.0 o refl (holds r.0 r.1)
 
-  pub replaced_length : (line : ℕ) (Sort : Line Row → Type 0) (found left : List (Line Row)) → Replaced line Sort found left → length left ≡ length found
-  replaced_length line Sort found left r = ap length r.2 ∙ length-set found line r.0
+  pub replaced_length : (line : ℕ) (IsNew : Line Row → Type 0) (found left : List (Line Row)) → Replaced line IsNew found left → length left ≡ length found
+  replaced_length line IsNew found left r = ap length r.2 ∙ length-set found line r.0
 
   -- what is left where some lines were laid for a table
   pub relaid_stands : (room : ℕ) (found left : Moment Row) → Stands room found

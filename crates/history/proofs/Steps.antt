@@ -58,14 +58,14 @@ module _ {Header Rule Row : Type 0} (k : Meaning Header Rule Row) (room : ℕ) w
       }
 
   -- a put or a strike, by the rule that its line then has, or none
-  module _ (found left : Moment Row) (tally : ℕ) (before after : List ℕ) (line : ℕ) (Sort : Line Row → Type 0) (o : Option Rule) where
+  module _ (found left : Moment Row) (tally : ℕ) (before after : List ℕ) (line : ℕ) (IsNew : Line Row → Type 0) (o : Option Rule) where
     -- the table of the lines that are left fits
     changed : Stands k room found → left.table ≡ found.table → rules_of k left.lines ≡ slice_set (rules_of k found.lines) line o
         → Fits k (slice_set (rules_of k found.lines) line o) found.table.bits room
-        → Relaid k found.table (lending found before) (lending left after) line Sort
+        → Relaid k found.table (lending found before) (lending left after) line IsNew
         → Stands k room left × (plain_of k left ≡ with_rule (plain_of k found) line o)
     changed s table rules_are fits r = (
-      relaid_stands k room found left s (replaced_length k line Sort found.lines left.lines r.lines) (ap (λ (t : Shape). t.lines) table) (ap (λ (t : Shape). t.area) table)
+      relaid_stands k room found left s (replaced_length k line IsNew found.lines left.lines r.lines) (ap (λ (t : Shape). t.lines) table) (ap (λ (t : Shape). t.area) table)
           (r.area ∙ ap (λ (t : Shape). laid_for k t left.lines found.area) (sym table))
           (subst (λ rs. Fits k rs left.table.bits room) (sym rules_are) (subst (λ (t : Shape). Fits k (slice_set (rules_of k found.lines) line o) t.bits room) (sym table) fits)),
       ap₂ (λ rs (t : Shape). record { rules = rs; bits = t.bits }) rules_are table,

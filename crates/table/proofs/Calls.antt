@@ -43,14 +43,14 @@ module _ {Row A F : Type 0} (tell : Refusal → F) (Does : A → Type 0) (found 
   done (Ok _) answer e does = does
   done (Err refusal) answer e does = absurd (err_ok e)
 
-module _ {Header Rule Row : Type 0} (k : Meaning Header Rule Row) (table : Shape) (found left : Memory Row) (line : ℕ) (new : Line Row) (Sort : Line Row → Type 0) where
+module _ {Header Rule Row : Type 0} (k : Meaning Header Rule Row) (table : Shape) (found left : Memory Row) (line : ℕ) (new : Line Row) (IsNew : Line Row → Type 0) where
   answered : (v r : Result (Unit {0}) Refusal)
       → v ≡ r
-      → Sort new
+      → IsNew new
       → left.lines ≡ (if is_ok r then slice_set found.lines line new else found.lines)
       → left.area ≡ (if is_ok r then laid k (rules_of k left.lines) table.bits (length found.area) else found.area)
       → left.tally ≡ tally_left r found.tally
-      → Answers (λ refusal. refusal) (λ _. Relaid k table found left line Sort) found left v r
+      → Answers (λ refusal. refusal) (λ _. Relaid k table found left line IsNew) found left v r
   answered (Ok _) (Ok _) e sort lines area tally = record { lines = (new, sort, lines); area = area; tally = tally }
   answered (Ok _) (Err told) e sort lines area tally = absurd (err_ok (sym e))
   answered (Err refusal) (Ok _) e sort lines area tally = absurd (err_ok e)
@@ -63,12 +63,12 @@ module _ {Header Rule Row : Type 0} (k : Meaning Header Rule Row) (table : Shape
       → verdict front ≡ Ok tt
       → place ≡ line
       → rule_of k new ≡ o
-      → Sort new
+      → IsNew new
       → r ≡ verdict (room_checks k (rules_of k (slice_set found.lines place new)) table.bits (length found.tally) (length found.area))
       → left.lines ≡ (if is_ok r then slice_set found.lines place new else found.lines)
       → left.area ≡ (if is_ok r then laid k (rules_of k left.lines) table.bits (length found.area) else found.area)
       → left.tally ≡ tally_left r found.tally
-      → Answers (λ refusal. refusal) (λ _. Relaid k table found left line Sort) found left (verdict (front ++ room_checks k (slice_set (rules_of k found.lines) line o) table.bits (length found.tally) (length found.area))) r
+      → Answers (λ refusal. refusal) (λ _. Relaid k table found left line IsNew) found left (verdict (front ++ room_checks k (slice_set (rules_of k found.lines) line o) table.bits (length found.tally) (length found.area))) r
   relaid front o place r passed at is sort said lines area tally =
       let checks = λ (rules : List (Option Rule)). room_checks k rules table.bits (length found.tally) (length found.area) in
       let behind = verdict_behind front (checks (slice_set (rules_of k found.lines) line o)) passed in

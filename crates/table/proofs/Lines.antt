@@ -30,5 +30,5 @@ module _ {Header Rule Row : Type 0} (k : Meaning Header Rule Row) where
   pub emptied_none : (lines : List (Line Row)) (line : ℕ) (new : Line Row) → IsEmptied lines line new → rule_of k new ≡ None
   emptied_none lines line new is = emptied_at (slice_get lines line) new is
 
-pub replaced : {Row : Type 0} (Sort : Line Row → Type 0) (lines : List (Line Row)) (place line : ℕ) (new : Line Row) → place ≡ line → Sort new → Replaced line Sort lines (slice_set lines place new)
-replaced Sort lines place line new at sort = (new, sort, ap (λ (p : ℕ). slice_set lines p new) at)
+pub replaced : {Row : Type 0} (IsNew : Line Row → Type 0) (lines : List (Line Row)) (place line : ℕ) (new : Line Row) → place ≡ line → IsNew new → Replaced line IsNew lines (slice_set lines place new)
+replaced IsNew lines place line new at sort = (new, sort, ap (λ (p : ℕ). slice_set lines p new) at)

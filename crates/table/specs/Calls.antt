@@ -64,8 +64,8 @@ pub record IsShape (count room : ℕ) (chosen : List ℕ) (table : Shape) : Type
   pub bits : table.bits ≡ chosen
 
 -- the lines lent are a book's from now on, and empty
-abbrev pub Opens : {K Row : Type 0} → Memory Row → Result (OpenBook K) Fault → Memory Row → Type 0
-Opens found answer left = Answers (at 0) (λ book. (book.lines ≡ length found.lines) × (left.lines ≡ map emptied found.lines)) found left (verdict (count_checks (length found.lines))) answer
+abbrev pub Opens : {K Row : Type 0} → Memory Row → Memory Row → Result (OpenBook K) Fault → Type 0
+Opens found left answer = Answers (at 0) (λ book. (book.lines ≡ length found.lines) × (left.lines ≡ map emptied found.lines)) found left (verdict (count_checks (length found.lines))) answer
 
 module _ {Header Rule Row : Type 0} (k : Meaning Header Rule Row) where
   module _ (opened : ℕ) (found left : Memory Row) {F : Type 0} (tell : Refusal → F) where
@@ -124,8 +124,8 @@ module _ {Header Rule Row : Type 0} (k : Meaning Header Rule Row) where
 
     module _ (left : Memory Row) where
       -- a line is replaced, and the area is as laying the lines so changed leaves it
-      pub record Relaid (line : ℕ) (Sort : Line Row → Type 0) : Type 0 where
-        pub lines : Replaced line Sort found.lines left.lines
+      pub record Relaid (line : ℕ) (IsNew : Line Row → Type 0) : Type 0 where
+        pub lines : Replaced line IsNew found.lines left.lines
         pub area : left.area ≡ laid_for table left.lines found.area
         pub tally : left.tally ≡ zeros found.tally
 

@@ -20,4 +20,4 @@ module _ {Row : Type 0} where
   IsEmptied found place new = IsSomeAnd (slice_get found place) (λ old. new ≡ emptied old)
 
   abbrev pub Replaced : ℕ → (Line Row → Type 0) → List (Line Row) → List (Line Row) → Type 0
-  Replaced place Sort found left = (new : Line Row) × Sort new × (left ≡ slice_set found place new)
+  Replaced place IsNew found left = (new : Line Row) × IsNew new × (left ≡ slice_set found place new)

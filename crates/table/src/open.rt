@@ -42,7 +42,7 @@ impl<K: Kind> OpenBook<K> {
 
     // Opens a book over lines, which become empty.
     pub fn open(lines: &mut [Line<K::Row>]) -> Result<OpenBook<K>, Fault>
-        ensures { Opens (memory lines.old [] []) result (memory lines.new [] []) }
+        ensures { Opens (memory lines.old [] []) (memory lines.new [] []) result }
     {
         if lines.is_empty() || lines.len() > MOST_LINES {
             return Err(Refusal::LineCount.at(0));
