@@ -37,7 +37,11 @@ fn as_told(answer: Answer) -> Told {
 
 // A turn that is lent four numbers of the tally.
 fn turn(call: Call<Rule, Header, Either>) -> Turn<Rule, Header, Either> {
-    Turn { call, tally: 4 }
+    Turn {
+        call,
+        tally: 4,
+        answer: None,
+    }
 }
 
 fn look_up(first: u8) -> Turn<Rule, Header, Either> {
@@ -56,6 +60,7 @@ fn choose(judge: Either, most_bits: usize, tally: usize) -> Turn<Rule, Header, E
             asked: Asked { judge, limits },
         },
         tally,
+        answer: None,
     }
 }
 
@@ -65,7 +70,7 @@ fn is_carried_out(rt: HostRuntime) -> Result<(), Fail> {
     let rule = kinds::rule_of::<Bridge>(&lines[4]).ok_or("no rule")?;
     let mut area = [7u32; 17];
     let mut tally = [7u32; 9];
-    let turns = [
+    let mut turns = [
         look_up(0xe0),
         turn(Call::Strike { line: 4 }),
         look_up(0xe0),
@@ -74,6 +79,7 @@ fn is_carried_out(rt: HostRuntime) -> Result<(), Fail> {
         Turn {
             call: Call::Put { line: 4, rule },
             tally: 3,
+            answer: Some(Answer::Done),
         },
         turn(Call::Put { line: 4, rule }),
         choose(Either::BySquares, 2, 100),
@@ -96,24 +102,15 @@ fn is_carried_out(rt: HostRuntime) -> Result<(), Fail> {
         Told::Refused(14, 0),
         Told::Chosen(0, 0, 111, Outcome::Settled),
     ];
-    let mut answers = [Answer::Done; 12];
     let asked = Asked {
         judge: Either::ByLargest,
         limits: TWO_BITS,
     };
     let book = book(&mut lines).map_err(|_| "no book")?;
-    let ran = run(
-        book,
-        &mut lines,
-        &mut area,
-        &mut tally,
-        &asked,
-        &turns,
-        &mut answers,
-    );
+    let ran = run(book, &mut lines, &mut area, &mut tally, &asked, &mut turns);
     assert!(rt; ran.is_ok(), "it is made");
-    for (at, answer) in answers.iter().enumerate() {
-        assert_eq!(rt; as_told(*answer), expected[at], "turn {at}");
+    for (at, turn) in turns.iter().enumerate() {
+        assert_eq!(rt; turn.answer.map(as_told), Some(expected[at]), "turn {at}");
     }
     assert_eq!(rt; tally, [0u32; 9]);
     Ok(())

@@ -1,6 +1,6 @@
 -- Making a table: what was measured for an area can be laid in it, and what is made and carried out is a history.
-use Rattle.std.proofs.Common.{◌≡◌, ℕ, Bool, List, [], ◌++◌, map, length, take, drop, replicate, Ok, Err, sym, refl, ap, ap₂, ◌∙◌, subst}
-use Rattle.std.proofs.lemmas.List.{length-map, length-replicate}
+use Rattle.std.proofs.Common.{◌≡◌, ℕ, Bool, List, [], ◌++◌, map, length, replicate, Ok, Err, sym, refl, ap, ap₂, ◌∙◌, subst}
+use Rattle.std.proofs.lemmas.List.{length-replicate}
 use Rattle.std.proofs.lemmas.Bool.{ltb-false}
 use Rattle.kinds.specs.Meaning.{Meaning}
 use Rattle.kinds.specs.Lines.{rules_of}
@@ -14,12 +14,11 @@ use Rattle.table.specs.declared.shape.Shape.{Shape}
 use Rattle.table.specs.declared.laid.LaidTable.{LaidTable}
 use Rattle.table.proofs.Calls.{all_pass, verdict_behind, done}
 use Rattle.table.proofs.Rooms.{chosen_room}
-use Rattle.history.specs.Turns.{AnyTurn, lent}
+use Rattle.history.specs.Turns.{asked_of, lent}
 use Rattle.history.specs.Histories.{moment, Lives}
-use Rattle.history.specs.Runs.{numbers_of, TableMade, Makes, Ran, Runs}
+use Rattle.history.specs.Runs.{numbers_of, CarriedOut, TableMade, Makes, Ran, Runs}
 use Rattle.history.specs.declared.turn.Asked.{Asked}
 use Rattle.history.specs.declared.turn.Turn.{Turn}
-use Rattle.history.specs.declared.turn.Answer.{Answer}
 use Rattle.history.proofs.Answers.{not_refused, did}
 use Rattle.history.proofs.Standing.{own_memory, same_length}
 
@@ -66,18 +65,6 @@ module _ {Header Rule Row : Type 0} (k : Meaning Header Rule Row) (opened : ℕ)
       tally = is_laid.tally ∙ ap (λ n. replicate n 0) (ap length is.tally ∙ length-replicate (length tally) 0);
     }
 
-  -- what was made, and what was carried out on it
-  pub ran : (rest laid made_tally left_tally : List ℕ) (turns : List (AnyTurn Rule Header)) (before after : List Answer) (left : List (Line Row)) (first table : Shape) (choice : Choice)
-      → TableMade k opened asked (memory lines area tally) (memory lines rest made_tally) first choice
-      → Lives k (moment first lines rest) (take (length before) turns) (take (length turns) after) (moment table left laid)
-      → drop (length turns) after ≡ drop (length turns) before
-      → (made_tally ≡ zeros made_tally → left_tally ≡ zeros made_tally)
-      → Ran k opened asked (memory lines area tally) (memory left laid left_tally) turns before after table choice
-  ran rest laid made_tally left_tally turns before after left first table choice made lived behind zero =
-      let as_long : length made_tally ≡ length tally = ap length made.tally ∙ length-replicate (length tally) 0 in
-      let still : zeros made_tally ≡ zeros tally = ap (λ n. replicate n 0) as_long in
-      record { history = record { first = moment first lines rest; made = made.made; lived = lived }; behind = behind; tally = zero (made.tally ∙ sym still) ∙ still }
-
   module _ {A F : Type 0} (view : A → Shape × Choice) (tell : Refusal → F) (counted : List ℕ) (x : A) (measures : Measures k opened (length area) asked.judge asked.limits (memory lines [] tally) (memory lines [] counted) view tell (Ok x)) where
     measured_so : (verdict checks ≡ Ok tt) × IsMeasured counted (view x).0 (view x).1
     measured_so = did tell (λ made. IsMeasured counted (view made).0 (view made).1) (memory lines [] tally) (memory lines [] counted) (verdict checks) x measures
@@ -95,21 +82,27 @@ module _ {Header Rule Row : Type 0} (k : Meaning Header Rule Row) (opened : ℕ)
       makes_anyway fault lays = absurd (never_refused counted (view x).0 (view x).1 show say laid after fault measured_so.0 measured_so.1 lays)
 
   -- a run, from a table that was made and turns that were carried out on it
-  pub run_is : {K J F : Type 0} (cost : J → List ℕ → ℕ) (tell : Refusal → F) (turns : List (Turn Rule Header J)) (before after : List Answer) (left : List (Line Row)) (laid left_tally rest made_tally : List ℕ) (first table : LaidTable K) (choice : Choice)
+  pub run_is : {K J F : Type 0} (cost : J → List ℕ → ℕ) (tell : Refusal → F) (before after : List (Turn Rule Header J)) (left : List (Line Row)) (laid left_tally rest made_tally : List ℕ) (first table : LaidTable K) (choice : Choice)
       → Makes k opened asked (memory lines area tally) (memory lines rest made_tally) numbers_of tell (Ok (first, choice))
-      → Lives k (moment first.shape lines rest) (take (length before) (map (lent cost (length made_tally)) turns)) (take (length turns) after) (moment table.shape left laid)
-      → drop (length turns) after ≡ drop (length turns) before
+      → CarriedOut k cost (length made_tally) before (moment first.shape lines rest) after (moment table.shape left laid)
       → (made_tally ≡ zeros made_tally → left_tally ≡ zeros made_tally)
-      → Runs k opened asked (memory lines area tally) (memory left laid left_tally) (map (lent cost (length tally)) turns) before after numbers_of tell (Ok (table, choice))
-  run_is {K} cost tell turns before after left laid left_tally rest made_tally first table choice makes_it lived behind zero =
+      → Runs k opened asked (memory lines area tally) (memory left laid left_tally) cost before after numbers_of tell (Ok (table, choice))
+  run_is {K} cost tell before after left laid left_tally rest made_tally first table choice makes_it carried zero =
       let made = did tell (λ (made : LaidTable K × Choice). TableMade k opened asked (memory lines area tally) (memory lines rest made_tally) made.0.shape made.1) (memory lines area tally) (memory lines rest made_tally) (verdict checks) (first, choice) makes_it in
       let as_long : length made_tally ≡ length tally = ap length made.1.tally ∙ length-replicate (length tally) 0 in
-      let asked_turns = map (lent cost (length tally)) turns in
-      let count = length-map turns (lent cost (length tally)) in
-      let lived_so = subst (λ (n : ℕ). Lives k (moment first.shape lines rest) (take (length before) asked_turns) (take n after) (moment table.shape left laid)) (sym count)
-      (subst (λ (n : ℕ). Lives k (moment first.shape lines rest) (take (length before) (map (lent cost n) turns)) (take (length turns) after) (moment table.shape left laid)) as_long lived) in
+      let still : zeros made_tally ≡ zeros tally = ap (λ n. replicate n 0) as_long in
       record {
-        answers = done tell (λ (made : LaidTable K × Choice). Ran k opened asked (memory lines area tally) (memory left laid left_tally) asked_turns before after made.0.shape made.1) (memory lines area tally) (memory left laid left_tally) (verdict checks) (table, choice) made.0
-            (ran rest laid made_tally left_tally asked_turns before after left first.shape table.shape choice made.1 lived_so (subst (λ (n : ℕ). drop n after ≡ drop n before) (sym count) behind) zero);
+        answers = done tell (λ (made : LaidTable K × Choice). Ran k opened asked (memory lines area tally) (memory left laid left_tally) cost before after made.0.shape made.1) (memory lines area tally) (memory left laid left_tally) (verdict checks) (table, choice) made.0
+            (record {
+              answers = carried.answers;
+              history = record {
+                first = moment first.shape lines rest;
+                made = made.1.made;
+                lived = subst (λ (n : ℕ). Lives k (moment first.shape lines rest) (map (lent cost n) (map asked_of before)) carried.answers (moment table.shape left laid)) as_long carried.lived;
+              };
+              answered = carried.answered;
+              asks = carried.asks;
+              tally = zero (made.1.tally ∙ sym still) ∙ still;
+            });
         kept = tt;
       }

@@ -1,8 +1,10 @@
 -- Turns of a history, by what their judges say.
 --     AnyCall, AnyTurn   a call whose judge, if it has one, is a cost, and such a call with the length of the tally that it is lent
+--     Unanswered         what a turn asks: its call, and the length of the tally that it wants
+--     asked_of           that of a turn
 --     priced             what is asked, with the judge told by its costs
 --     costed             a call as it is told so
---     lent               a turn as it is taken where so many numbers of the tally are at hand
+--     lent               what is asked, where so many numbers of the tally are at hand
 --     line_of            the line that a call is given, or 0
 --     of_change, of_choice, of_look_up   the answers of a history, from those of a table
 -- Assumes nothing.
@@ -16,12 +18,16 @@ use Rattle.history.specs.declared.turn.Turn.{Turn}
 use Rattle.history.specs.declared.turn.Answer.{Answer}
 use Rattle.history.specs.declared.turn.Answer.TheVariants.{Done, Chosen, Found, Refused}
 
+pub record Unanswered (Rule Header J : Type 0) : Type 0 where
+  pub call : Call Rule Header J
+  pub tally : ℕ
+
 module _ (Rule Header : Type 0) where
   abbrev pub AnyCall : Type 0
   AnyCall = Call Rule Header (List ℕ → ℕ)
 
   abbrev pub AnyTurn : Type 0
-  AnyTurn = Turn Rule Header (List ℕ → ℕ)
+  AnyTurn = Unanswered Rule Header (List ℕ → ℕ)
 
 abbrev pub priced : {J : Type 0} → (J → List ℕ → ℕ) → Asked J → Asked (List ℕ → ℕ)
 priced cost asked = record { judge = cost asked.judge; limits = asked.limits }
@@ -33,8 +39,11 @@ module _ {Rule Header J : Type 0} where
   costed cost (Choose asked) = Choose (priced cost asked)
   costed cost (LookUp header) = LookUp header
 
-  abbrev pub lent : (J → List ℕ → ℕ) → (tally : ℕ) → Turn Rule Header J → AnyTurn Rule Header
-  lent cost tally turn = record { call = costed cost turn.call; tally = min turn.tally tally }
+  abbrev pub asked_of : Turn Rule Header J → Unanswered Rule Header J
+  asked_of turn = record { call = turn.call; tally = turn.tally }
+
+  abbrev pub lent : (J → List ℕ → ℕ) → (tally : ℕ) → Unanswered Rule Header J → AnyTurn Rule Header
+  lent cost tally asked = record { call = costed cost asked.call; tally = min asked.tally tally }
 
   abbrev pub line_of : Call Rule Header J → ℕ
   line_of (Put line rule) = line

@@ -1,8 +1,9 @@
 // Carrying out the calls of a history.
-ghost use Rattle.std.specs.Prelude.{◌≡◌, length, take, drop, map};
+ghost use Rattle.std.specs.Prelude.{◌≡◌, length};
 ghost use Rattle.table.specs.Calls.{zeros};
-ghost use Rattle.history.specs.Turns.{costed, lent};
-ghost use Rattle.history.specs.Histories.{moment, Step, Lives};
+ghost use Rattle.history.specs.Turns.{costed, asked_of, lent};
+ghost use Rattle.history.specs.Histories.{moment, Step};
+ghost use Rattle.history.specs.Runs.{CarriedOut};
 
 use super::turn::{Answer, Call, Turn};
 use judges::Judge;
@@ -31,7 +32,7 @@ fn act<K: Kind, J: Judge>(
     }
 }
 
-// Carries out one turn, which is lent as many numbers of the tally as it says, or all of them.
+// Carries out the call of a turn, which is lent as many numbers of the tally as it says, or all of them.
 fn take_turn<K: Kind, J: Judge>(
     table: &mut LaidTable<K>,
     lines: &mut [Line<K::Row>],
@@ -39,28 +40,26 @@ fn take_turn<K: Kind, J: Judge>(
     tally: &mut [u32],
     turn: &Turn<K::Rule, K::Header, J>,
 ) -> Answer
-    ensures step { Step K.meaning (moment table.old.shape lines.old area.old) (lent J.cost (length tally.old) turn.now).tally (lent J.cost (length tally.old) turn.now).call result (moment table.new.shape lines.new area.new) }
+    ensures step { Step K.meaning (moment table.old.shape lines.old area.old) (lent J.cost (length tally.old) (asked_of turn.now)).tally (lent J.cost (length tally.old) (asked_of turn.now)).call result (moment table.new.shape lines.new area.new) }
     ensures tally { tally.old ≡ zeros tally.old → tally.new ≡ zeros tally.old }
 {
     let part = turn.tally.min(tally.len());
     act(table, lines, area, &mut tally[..part], &turn.call)
 }
 
-// Carries out turns in order, as many as there are places for their answers.
+// Carries out turns in order, and writes their answers.
 pub(crate) fn carry_out<K: Kind, J: Judge>(
     table: &mut LaidTable<K>,
     lines: &mut [Line<K::Row>],
     area: &mut [u32],
     tally: &mut [u32],
-    turns: &[Turn<K::Rule, K::Header, J>],
-    answers: &mut [Answer],
+    turns: &mut [Turn<K::Rule, K::Header, J>],
 )
-    ensures lived { Lives K.meaning (moment table.old.shape lines.old area.old) (take (length answers.old) (map (lent J.cost (length tally.old)) turns.now)) (take (length turns.now) answers.new) (moment table.new.shape lines.new area.new) }
-    ensures behind { drop (length turns.now) answers.new ≡ drop (length turns.now) answers.old }
+    ensures lived { CarriedOut K.meaning J.cost (length tally.old) turns.old (moment table.old.shape lines.old area.old) turns.new (moment table.new.shape lines.new area.new) }
     ensures tally { tally.old ≡ zeros tally.old → tally.new ≡ zeros tally.old }
 {
-    let count = turns.len().min(answers.len());
-    for (at, turn) in turns[..count].iter().enumerate() {
-        answers[at] = take_turn(table, lines, area, tally, turn);
+    for turn in turns.iter_mut() {
+        let answer = take_turn(table, lines, area, tally, turn);
+        turn.answer = Some(answer);
     }
 }

@@ -1,13 +1,13 @@
 // A run: making a table over lent memory, and carrying out a list of calls on it.
-ghost use Rattle.std.specs.Prelude.{◌≡◌, length, map};
+ghost use Rattle.std.specs.Prelude.{◌≡◌, length};
 ghost use Rattle.table.specs.Refusals.{back};
 ghost use Rattle.table.specs.Calls.{memory};
-ghost use Rattle.history.specs.Turns.{priced, lent};
+ghost use Rattle.history.specs.Turns.{priced};
 ghost use Rattle.history.specs.Runs.{numbers_of, Makes, Runs};
 ghost use Rattle.history.specs.Facts.{ThreeFacts};
 
 use super::carrying::carry_out;
-use super::turn::{Answer, Asked, Turn};
+use super::turn::{Asked, Turn};
 use choice::Choice;
 use judges::Judge;
 use kinds::{Kind, Line};
@@ -33,20 +33,19 @@ fn make<K: Kind, J: Judge>(
     }
 }
 
-// Makes a table of a book's lines, and carries out turns on it, as many as there are places for their answers.
+// Makes a table of a book's lines, and carries out turns on it, which get their answers.
 pub fn run<K: Kind, J: Judge>(
     book: OpenBook<K>,
     lines: &mut [Line<K::Row>],
     area: &mut [u32],
     tally: &mut [u32],
     asked: &Asked<J>,
-    turns: &[Turn<K::Rule, K::Header, J>],
-    answers: &mut [Answer],
+    turns: &mut [Turn<K::Rule, K::Header, J>],
 ) -> Result<(LaidTable<K>, Choice), Refused<OpenBook<K>>>
-    ensures run { Runs K.meaning book.lines (priced J.cost asked.now) (memory lines.old area.old tally.old) (memory lines.new area.new tally.new) (map (lent J.cost (length tally.old)) turns.now) answers.old answers.new numbers_of (back book) result }
+    ensures run { Runs K.meaning book.lines (priced J.cost asked.now) (memory lines.old area.old tally.old) (memory lines.new area.new tally.new) J.cost turns.old turns.new numbers_of (back book) result }
     ensures facts { ThreeFacts K.meaning }
 {
     let (mut table, choice) = make(book, lines, area, tally, asked)?;
-    carry_out(&mut table, lines, area, tally, turns, answers);
+    carry_out(&mut table, lines, area, tally, turns);
     Ok((table, choice))
 }

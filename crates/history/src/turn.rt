@@ -20,11 +20,12 @@ pub enum Call<R, H, J> {
     LookUp { header: H },
 }
 
-// A call, and how many numbers of the tally it is lent.
+// A call, how many numbers of the tally it is lent, and its answer once it was carried out.
 #[derive(Drop)]
 pub struct Turn<R, H, J> {
     pub call: Call<R, H, J>,
     pub tally: usize,
+    pub answer: Option<Answer>,
 }
 
 // What a table answers.

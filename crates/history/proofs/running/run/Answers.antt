@@ -11,9 +11,9 @@ returns-in_err-table-clause-facts g c = three_facts g.K.Kind.meaning g.met.K.Kin
 pub returns-clause-run : goal.returns-clause-run
 returns-clause-run g c =
     run_is g.K.Kind.meaning c.args.book.lines (priced g.J.Judge.cost c.args.asked.now) c.args.lines.now c.args.area.now c.args.tally.now
-    g.J.Judge.cost (back c.args.book) c.args.turns.now c.args.answers.now c.carry_out.new.answers c.carry_out.new.lines c.carry_out.new.area c.carry_out.new.tally
+    g.J.Judge.cost (back c.args.book) c.args.turns.now c.carry_out.new.turns c.carry_out.new.lines c.carry_out.new.area c.carry_out.new.tally
     c.make.new.area c.make.new.tally c.in_ok-table.table c.carry_out.new.table c.in_ok-table.choice
-    c.in_ok-table.ensures (search rules) (search rules) (search rules)
+    c.in_ok-table.ensures (search rules) (search rules)
 
 pub returns-clause-facts : goal.returns-clause-facts
 returns-clause-facts g c = three_facts g.K.Kind.meaning g.met.K.Kind.lawful
