@@ -5,5 +5,5 @@ mod carrying;
 mod running;
 mod turn;
 
-pub use running::run;
+pub use running::{make, run};
 pub use turn::{Answer, Asked, Call, Turn};

@@ -14,7 +14,7 @@ use kinds::{Kind, Line};
 use table::{LaidTable, OpenBook, Refused};
 
 // Measures the lines found, and lays their table. What was measured for this very area can be laid.
-fn make<K: Kind, J: Judge>(
+pub fn make<K: Kind, J: Judge>(
     book: OpenBook<K>,
     lines: &[Line<K::Row>],
     area: &mut [u32],

@@ -30,6 +30,13 @@ impl<K: Kind> LaidTable<K> {
     ghost use Rattle.table.specs.Refusals.{at};
     ghost use Rattle.table.specs.Calls.{memory, tally_left, Puts, Strikes, ChoosesAnew, laid_for, looks_up, block_found};
 
+    // How many lines the table has.
+    pub fn lines(&self) -> usize
+        ensures { result ≡ self.now.shape.lines }
+    {
+        self.shape.lines
+    }
+
     // Lays the table with one line changed, and then changes the line.
     fn change(
         &self,

@@ -54,6 +54,13 @@ impl<K: Kind> OpenBook<K> {
         })
     }
 
+    // How many lines the book has.
+    pub fn lines(&self) -> usize
+        ensures { result ≡ self.now.lines }
+    {
+        self.lines
+    }
+
     // The book of a table's lines.
     pub(crate) fn again(shape: Shape, kind: PhantomData<K>) -> OpenBook<K>
         ensures { result.lines ≡ shape.lines }

@@ -1,0 +1,85 @@
+-- The machine of a job: what each record does, for all inputs.
+--     Lent      the memory of a job: the lines of each kind, an area and a tally
+--     Opens     a book of some kind is opened over the lines lent for it
+--     Serves    a request to a book, over the lines that it was opened with
+--     Steps     a request to the machine
+--     Answers   a record
+-- Assumes nothing.
+use Rattle.std.specs.Prelude.{◌≡◌, ℕ, List, take, drop, Ok, Err, Result}
+use Rattle.kinds.specs.declared.line.Line.{Line}
+use Rattle.kinds.specs.Meaning.{Meaning}
+use Rattle.routed.specs.Routed.{routed}
+use Rattle.routed.specs.declared.kind.Routed.{Routed}
+use Rattle.routed.specs.declared.rule.Row.{Row as RoutedRow}
+use Rattle.bridge.specs.Bridge.{bridge}
+use Rattle.bridge.specs.declared.kind.Bridge.{Bridge}
+use Rattle.bridge.specs.declared.rule.Row.{Row as BridgeRow}
+use Rattle.table.specs.Calls.{Memory, memory}
+use Rattle.table.specs.declared.refusal.Fault.{Fault as TableFault}
+use Rattle.records.specs.Requests.{request_of}
+use Rattle.records.specs.declared.record.Record.{Record}
+use Rattle.records.specs.declared.refusal.Refusal.{Refusal}
+use Rattle.records.specs.declared.request.Request.{Request}
+use Rattle.records.specs.declared.request.Request.TheVariants.{OpenRouted, OpenBridge}
+use Rattle.job.specs.Readings.{Reading, routed_reading, bridge_reading}
+use Rattle.job.specs.Books.{lines_of, IsOpened, Takes}
+use Rattle.job.specs.declared.answer.Answer.{Answer}
+use Rattle.job.specs.declared.answer.Answer.TheVariants.{Done}
+use Rattle.job.specs.declared.fault.Fault.{Fault}
+use Rattle.job.specs.declared.fault.Fault.TheVariants as fault
+use Rattle.job.specs.declared.filter.Filter.{Filter}
+use Rattle.job.specs.declared.machine.Job.{Job}
+use Rattle.job.specs.declared.machine.Job.TheVariants as job
+
+pub record Lent : Type 0 where
+  pub routed : List (Line RoutedRow)
+  pub bridge : List (Line BridgeRow)
+  pub area : List ℕ
+  pub tally : List ℕ
+
+abbrev pub lent : List (Line RoutedRow) → List (Line BridgeRow) → (area tally : List ℕ) → Lent
+lent routed bridge area tally = record { routed = routed; bridge = bridge; area = area; tally = tally }
+
+-- one of the books of a job, with the lines that are lent for it; the lines behind those of the book stay as they are
+module _ {Header Rule Row K : Type 0} (k : Meaning Header Rule Row) (reading : Reading Header Rule) where
+  pub record Serves (found left : Memory Row) (book : Filter K) (request : Request) (after : Filter K) (answer : Result Answer Fault) : Type 0 where
+    pub takes : Takes k (memory (take (lines_of book) found.lines) found.area found.tally) (memory (take (lines_of book) left.lines) left.area left.tally) reading book request after answer
+    pub others : drop (lines_of book) left.lines ≡ drop (lines_of book) found.lines
+
+-- the memory of one kind's book
+abbrev pub routed_in : Lent → Memory RoutedRow
+routed_in m = memory m.routed m.area m.tally
+
+abbrev pub bridge_in : Lent → Memory BridgeRow
+bridge_in m = memory m.bridge m.area m.tally
+
+module _ (found left : Lent) where
+  -- what an opening leaves aside
+  pub record Unused : Type 0 where
+    pub area : left.area ≡ found.area
+    pub tally : left.tally ≡ found.tally
+
+  abbrev pub OpensRouted : ℕ → Job → Result Answer Fault → Type 0
+  OpensRouted count (job.Routed book) (Ok Done) = IsOpened count found.routed left.routed (Ok book) × (left.bridge ≡ found.bridge) × Unused
+  OpensRouted count job.Unopened (Err (fault.Table refused)) = IsOpened {K = Routed} count found.routed left.routed (Err refused) × (left.bridge ≡ found.bridge) × Unused
+  OpensRouted count _ _ = ⊥
+
+  abbrev pub OpensBridge : ℕ → Job → Result Answer Fault → Type 0
+  OpensBridge count (job.Bridge book) (Ok Done) = IsOpened count found.bridge left.bridge (Ok book) × (left.routed ≡ found.routed) × Unused
+  OpensBridge count job.Unopened (Err (fault.Table refused)) = IsOpened {K = Bridge} count found.bridge left.bridge (Err refused) × (left.routed ≡ found.routed) × Unused
+  OpensBridge count _ _ = ⊥
+
+  abbrev pub Steps : Job → Request → Job → Result Answer Fault → Type 0
+  Steps job.Unopened (OpenRouted count) after answer = OpensRouted count after answer
+  Steps job.Unopened (OpenBridge count) after answer = OpensBridge count after answer
+  Steps job.Unopened _ after answer = (after ≡ job.Unopened) × (left ≡ found) × (answer ≡ Err fault.OutOfOrder)
+  Steps (job.Routed book) request (job.Routed after) answer = Serves routed routed_reading (routed_in found) (routed_in left) book request after answer × (left.bridge ≡ found.bridge)
+  Steps (job.Bridge book) request (job.Bridge after) answer = Serves bridge bridge_reading (bridge_in found) (bridge_in left) book request after answer × (left.routed ≡ found.routed)
+  Steps _ _ _ _ = ⊥
+
+  abbrev pub AnswersTo : Job → Result Request Refusal → Job → Result Answer Fault → Type 0
+  AnswersTo machine (Ok request) after answer = Steps machine request after answer
+  AnswersTo machine (Err refusal) after answer = (after ≡ machine) × (left ≡ found) × (answer ≡ Err (fault.Record refusal))
+
+  abbrev pub Answers : Job → Record → Job → Result Answer Fault → Type 0
+  Answers machine this = AnswersTo machine (request_of this)

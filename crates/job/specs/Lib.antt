@@ -1,0 +1,5 @@
+pub mod Faults
+pub mod Readings
+pub mod Books
+pub mod Jobs
+pub mod Replies

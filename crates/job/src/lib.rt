@@ -1,0 +1,16 @@
+// Jobs: records in, printed lines out, over books and tables.
+#![tactic(auto)]
+
+mod answer;
+mod fault;
+mod filter;
+mod machine;
+mod recorded;
+mod reply;
+
+pub use answer::Answer;
+pub use fault::Fault;
+pub use filter::Filter;
+pub use machine::Job;
+pub use recorded::Recorded;
+pub use reply::Reply;

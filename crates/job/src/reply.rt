@@ -1,0 +1,39 @@
+// The line that is printed for a record.
+ghost use Rattle.std.specs.Prelude.{Some};
+ghost use Rattle.job.specs.Replies.{reply_text};
+
+use super::answer::Answer;
+use super::fault::Fault;
+use kinds::FaultCode;
+use std::fmt;
+
+// A record's answer, and where the record begins. No `==`: nothing compares replies.
+#[derive(Clone, Copy, Debug)]
+pub struct Reply {
+    pub offset: usize,
+    pub answer: Result<Answer, Fault>,
+}
+
+// One line with its end, or nothing where something was only done.
+impl fmt::Display for Reply {
+    ghost output = { λ reply. Some (reply_text reply) };
+
+    fn fmt<W: fmt::Write>(&self, f: &mut fmt::Formatter<W>) -> fmt::Result {
+        match self.answer {
+            Ok(Answer::Done) => Ok(()),
+            Ok(Answer::Chosen(choice)) => {
+                let bits = choice.bits.len();
+                let tries = choice.tries;
+                let outcome = choice.outcome;
+                writeln!(f, "bits {bits} tries {tries} {outcome}")
+            }
+            Ok(Answer::Found(Some(line), tried)) => writeln!(f, "{line} {tried}"),
+            Ok(Answer::Found(None, tried)) => writeln!(f, "none {tried}"),
+            Err(fault) => {
+                let code = FaultCode::from(fault);
+                let offset = self.offset;
+                writeln!(f, "refused {code} at {offset}")
+            }
+        }
+    }
+}

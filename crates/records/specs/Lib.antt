@@ -1,0 +1,5 @@
+pub mod Records
+pub mod Requests
+pub mod Refusals
+pub mod Judges
+pub mod JudgesLaw
