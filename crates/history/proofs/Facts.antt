@@ -38,12 +38,12 @@ module _ {Header Rule Row : Type 0} (k : Meaning Header Rule Row) where
   }
 
   -- what is made
-  record IsMade (start : Start Row) (choice : Choice) (first : Moment Row) : Type 0 where
-    stands : Stands k start.room first
-    plain : plain_of k first ≡ record { rules = rules_of k start.lines; bits = choice.bits }
-    certified : Certified k (rules_of k start.lines) start.room start.asked choice
+  pub record IsMade (start : Start Row) (choice : Choice) (first : Moment Row) : Type 0 where
+    pub stands : Stands k start.room first
+    pub plain : plain_of k first ≡ record { rules = rules_of k start.lines; bits = choice.bits }
+    pub certified : Certified k (rules_of k start.lines) start.room start.asked choice
 
-  made_is : (start : Start Row) (choice : Choice) (first : Moment Row) → Made k start choice first → IsMade start choice first
+  pub made_is : (start : Start Row) (choice : Choice) (first : Moment Row) → Made k start choice first → IsMade start choice first
   made_is start choice first made =
       let rules = rules_of k start.lines in
       let lines = length start.lines in

@@ -9,7 +9,7 @@ use Rattle.std.specs.Prelude.{◌≡◌, ℕ, Bool, true, false, List, [], ◌�
 use Rattle.kinds.specs.Meaning.{Meaning}
 use Rattle.choice.specs.declared.choice.Choice.{Choice}
 use Rattle.kinds.specs.Checks.{◌and_then◌}
-use Rattle.table.specs.Refusals.{at, told}
+use Rattle.table.specs.Refusals.{at}
 use Rattle.kinds.specs.declared.line.Line.{Line}
 use Rattle.table.specs.Checks.{verdict, count_checks}
 use Rattle.table.specs.Lines.{emptied}

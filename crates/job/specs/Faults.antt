@@ -1,7 +1,6 @@
 -- How the faults of a job are told.
 --     code_of   number, layer and place: those of the layer that refused
 -- Assumes nothing.
-use Rattle.std.specs.Prelude.{ℕ}
 use Rattle.kinds.specs.declared.code.FaultCode.{FaultCode}
 use Rattle.routed.specs.Faults.{code_of as routed_code}
 use Rattle.bridge.specs.Faults.{code_of as bridge_code}

@@ -1,9 +1,10 @@
 -- The machine of a job: what each record does, for all inputs.
 --     Lent      the memory of a job: the lines of each kind, an area and a tally
---     Opens     a book of some kind is opened over the lines lent for it
+--     own_of    the part of it that is a book's
 --     Serves    a request to a book, over the lines that it was opened with
 --     Steps     a request to the machine
 --     Answers   a record
+--     Replies   what a reader gives: a record, or the place where the job is cut off
 -- Assumes nothing.
 use Rattle.std.specs.Prelude.{◌≡◌, ℕ, List, take, drop, Ok, Err, Result}
 use Rattle.kinds.specs.declared.line.Line.{Line}
@@ -15,10 +16,11 @@ use Rattle.bridge.specs.Bridge.{bridge}
 use Rattle.bridge.specs.declared.kind.Bridge.{Bridge}
 use Rattle.bridge.specs.declared.rule.Row.{Row as BridgeRow}
 use Rattle.table.specs.Calls.{Memory, memory}
-use Rattle.table.specs.declared.refusal.Fault.{Fault as TableFault}
 use Rattle.records.specs.Requests.{request_of}
 use Rattle.records.specs.declared.record.Record.{Record}
+use Rattle.records.specs.declared.record.CutOff.{CutOff}
 use Rattle.records.specs.declared.refusal.Refusal.{Refusal}
+use Rattle.records.specs.declared.refusal.Refusal.TheVariants as refused
 use Rattle.records.specs.declared.request.Request.{Request}
 use Rattle.records.specs.declared.request.Request.TheVariants.{OpenRouted, OpenBridge}
 use Rattle.job.specs.Readings.{Reading, routed_reading, bridge_reading}
@@ -30,6 +32,7 @@ use Rattle.job.specs.declared.fault.Fault.TheVariants as fault
 use Rattle.job.specs.declared.filter.Filter.{Filter}
 use Rattle.job.specs.declared.machine.Job.{Job}
 use Rattle.job.specs.declared.machine.Job.TheVariants as job
+use Rattle.job.specs.declared.reply.Reply.{Reply}
 
 pub record Lent : Type 0 where
   pub routed : List (Line RoutedRow)
@@ -40,10 +43,14 @@ pub record Lent : Type 0 where
 abbrev pub lent : List (Line RoutedRow) → List (Line BridgeRow) → (area tally : List ℕ) → Lent
 lent routed bridge area tally = record { routed = routed; bridge = bridge; area = area; tally = tally }
 
+-- the memory of a book of so many lines, of all that is lent for its kind
+abbrev pub own_of : {Row : Type 0} → ℕ → Memory Row → Memory Row
+own_of count lent = memory (take count lent.lines) lent.area lent.tally
+
 -- one of the books of a job, with the lines that are lent for it; the lines behind those of the book stay as they are
 module _ {Header Rule Row K : Type 0} (k : Meaning Header Rule Row) (reading : Reading Header Rule) where
   pub record Serves (found left : Memory Row) (book : Filter K) (request : Request) (after : Filter K) (answer : Result Answer Fault) : Type 0 where
-    pub takes : Takes k (memory (take (lines_of book) found.lines) found.area found.tally) (memory (take (lines_of book) left.lines) left.area left.tally) reading book request after answer
+    pub takes : Takes k (own_of (lines_of book) found) (own_of (lines_of book) left) reading book request after answer
     pub others : drop (lines_of book) left.lines ≡ drop (lines_of book) found.lines
 
 -- the memory of one kind's book
@@ -83,3 +90,7 @@ module _ (found left : Lent) where
 
   abbrev pub Answers : Job → Record → Job → Result Answer Fault → Type 0
   Answers machine this = AnswersTo machine (request_of this)
+
+  abbrev pub Replies : Job → Result Record CutOff → Job → Reply → Type 0
+  Replies machine (Ok this) after reply = (reply.offset ≡ this.offset) × Answers machine this after reply.answer
+  Replies machine (Err cut) after reply = (after ≡ machine) × (left ≡ found) × (reply.offset ≡ cut.offset) × (reply.answer ≡ Err (fault.Record refused.CutOff))

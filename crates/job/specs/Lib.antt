@@ -3,3 +3,5 @@ pub mod Readings
 pub mod Books
 pub mod Jobs
 pub mod Replies
+pub mod PlainJobs
+pub mod Runs

@@ -2,7 +2,7 @@
 --     reply_text    the line of a reply; nothing where something was only done
 --     replies_text  the lines of some replies
 -- Assumes nothing.
-use Rattle.std.specs.Prelude.{ℕ, List, [], ◌∷◌, ◌++◌, length, Some, None, Ok, Err, Option, Result, codes, flat_map}
+use Rattle.std.specs.Prelude.{ℕ, List, [], ◌++◌, length, Some, None, Ok, Err, Option, Result, codes, flat_map}
 use Rattle.std.specs.Fmt.{decimal}
 use Rattle.kinds.specs.Codes.{code_text}
 use Rattle.choice.specs.Outcomes.{outcome_text}

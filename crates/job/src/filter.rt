@@ -72,13 +72,19 @@ where
         ensures { Takes K.meaning (memory lines.now area.old tally.old) (memory lines.now area.new tally.new) K.reading self (request_of.Choose judge limits) result.0 result.1 }
     {
         let Some(judge) = judge else {
-            return (self, Err(Fault::Table(table::Fault::from(Refusal::TooMuchAsked))));
+            return (
+                self,
+                Err(Fault::Table(table::Fault::from(Refusal::TooMuchAsked))),
+            );
         };
         match self {
             Filter::Open(book) => {
                 match history::make(book, lines, area, tally, &Asked { judge, limits }) {
                     Ok((table, choice)) => (Filter::Laid(table), Ok(Answer::Chosen(choice))),
-                    Err(Refused { state, fault }) => (Filter::Open(state), Err(Fault::Table(fault))),
+                    Err(Refused { state, fault }) => (
+                        Filter::Open(state),
+                        Err(Fault::Table(fault)),
+                    ),
                 }
             }
             Filter::Laid(mut table) => {

@@ -7,6 +7,7 @@ mod filter;
 mod machine;
 mod recorded;
 mod reply;
+mod running;
 
 pub use answer::Answer;
 pub use fault::Fault;
@@ -14,3 +15,4 @@ pub use filter::Filter;
 pub use machine::Job;
 pub use recorded::Recorded;
 pub use reply::Reply;
+pub use running::run;

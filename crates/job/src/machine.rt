@@ -1,13 +1,14 @@
 // The machine of a job: what is open, and what a record may ask of it.
 ghost use Rattle.std.specs.Prelude.{◌≡◌};
-ghost use Rattle.job.specs.Jobs.{lent, Steps, Answers};
+ghost use Rattle.job.specs.Jobs.{lent, Steps, Answers, Replies};
 
 use super::answer::Answer;
 use super::fault::Fault;
 use super::filter::Filter;
+use super::reply::Reply;
 use bridge::Bridge;
 use kinds::Line;
-use records::{Record, Request};
+use records::{CutOff, Record, Refusal, Request};
 use routed::Routed;
 
 #[derive(Drop)]
@@ -64,6 +65,31 @@ impl Job {
         match Request::try_from(given) {
             Ok(request) => self.step(routed, bridge, area, tally, request),
             Err(refusal) => (self, Err(Fault::Record(refusal))),
+        }
+    }
+
+    // Replies to what a reader gives.
+    pub(crate) fn reply(
+        self,
+        routed: &mut [Line<routed::Row>],
+        bridge: &mut [Line<bridge::Row>],
+        area: &mut [u32],
+        tally: &mut [u32],
+        read: Result<Record<'_>, CutOff>,
+    ) -> (Job, Reply)
+        ensures { Replies (lent routed.old bridge.old area.old tally.old) (lent routed.new bridge.new area.new tally.new) self read.entry result.0 result.1 }
+    {
+        match read {
+            Ok(given) => {
+                let offset = given.offset;
+                let (machine, answer) = self.answer(routed, bridge, area, tally, given);
+                (machine, Reply { offset, answer })
+            }
+            Err(cut) => {
+                let answer = Err(Fault::Record(Refusal::CutOff));
+                let offset = cut.offset;
+                (self, Reply { offset, answer })
+            }
         }
     }
 }

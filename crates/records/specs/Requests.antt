@@ -7,7 +7,6 @@
 use Rattle.std.specs.Prelude.{ℕ, ◌+◌, if◌then◌else◌, List, length, Some, None, Ok, Err, Option, Result, ◌==◌, nat_lt, slice_index}
 use denote.Ref.{Bor}
 use Rattle.kinds.specs.Bytes.{big_endian}
-use Rattle.choice.specs.declared.limits.Limits.{Limits}
 use Rattle.routed.specs.declared.rule.Row.{Row as RoutedRow}
 use Rattle.bridge.specs.declared.rule.Row.{Row as BridgeRow}
 use Rattle.bridge.specs.declared.octets.Octets.{Octets}

@@ -18,16 +18,30 @@ pub enum Row {
 #[derive(Clone, Copy, Debug)]
 pub enum Request<'a> {
     // To open a book of so many lines.
-    OpenRouted { lines: usize },
-    OpenBridge { lines: usize },
+    OpenRouted {
+        lines: usize,
+    },
+    OpenBridge {
+        lines: usize,
+    },
     // To put the rule of a row into a line.
-    Put { line: usize, row: Row },
+    Put {
+        line: usize,
+        row: Row,
+    },
     // To strike a line.
-    Strike { line: usize },
+    Strike {
+        line: usize,
+    },
     // To choose bits, by a judge if there is one of that number, and to lay the table.
-    Choose { judge: Option<NamedJudge>, limits: Limits },
+    Choose {
+        judge: Option<NamedJudge>,
+        limits: Limits,
+    },
     // To look up a packet or a frame.
-    LookUp { packet: &'a [u8] },
+    LookUp {
+        packet: &'a [u8],
+    },
 }
 
 impl<'a> TryFrom<Record<'a>> for Request<'a> {
