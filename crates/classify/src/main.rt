@@ -1,0 +1,54 @@
+// A job on standard input, its answers on standard output.
+#![tactic(auto)]
+
+use anyhow::{Context, Result};
+use bridge::Octets;
+use kinds::Line;
+use std::alloc::{AllocError, Global};
+use std::io::{self, BufWriter, Read, Write};
+
+// One byte more than a job may have, so that a longer one is seen to be too long.
+const BYTES: u64 = 65537;
+
+// How much memory a job is lent: lines of either kind, an area and a tally.
+const LINES: usize = 1024;
+
+const AREA: usize = 8192;
+
+const TALLY: usize = 4096;
+
+// No byte is set.
+const NOTHING: Octets = Octets {
+    first: 0,
+    middle: 0,
+    last: 0,
+};
+
+// The bytes of the job.
+fn read_job(rt: &(impl Input + Alloc<A = Global>)) -> io::Result<Vec<u8>> {
+    let mut job = Vec::new(rt.alloc());
+    rt.reader().take(BYTES).read_to_end(&mut job)?;
+    Ok(job)
+}
+
+// Empty lines.
+fn lines<R: Copy>(alloc: Global, row: R) -> Result<Vec<Line<R>>, AllocError> {
+    vec![in alloc; Line { mark: false, row }; LINES]
+}
+
+fn main(rt: HostRuntime) -> Result<()> {
+    let job = read_job(&rt).context("reading the job")?;
+    let no_memory = "there is not enough memory";
+    let mut routed = lines(rt.alloc(), routed::Row::ALL).context(no_memory)?;
+    let row = bridge::Row {
+        value: NOTHING,
+        mask: NOTHING,
+    };
+    let mut bridge = lines(rt.alloc(), row).context(no_memory)?;
+    let mut area = vec![in rt.alloc(); 0u32; AREA].context(no_memory)?;
+    let mut tally = vec![in rt.alloc(); 0u32; TALLY].context(no_memory)?;
+    let mut out = BufWriter::new(rt.alloc(), io::writer(&rt)).context(no_memory)?;
+    job::run(&job, &mut routed, &mut bridge, &mut area, &mut tally, &mut out)
+        .context("printing the answers")?;
+    out.flush().context("printing the answers")
+}
