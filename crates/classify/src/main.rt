@@ -48,7 +48,14 @@ fn main(rt: HostRuntime) -> Result<()> {
     let mut area = vec![in rt.alloc(); 0u32; AREA].context(no_memory)?;
     let mut tally = vec![in rt.alloc(); 0u32; TALLY].context(no_memory)?;
     let mut out = BufWriter::new(rt.alloc(), io::writer(&rt)).context(no_memory)?;
-    job::run(&job, &mut routed, &mut bridge, &mut area, &mut tally, &mut out)
-        .context("printing the answers")?;
+    job::run(
+        &job,
+        &mut routed,
+        &mut bridge,
+        &mut area,
+        &mut tally,
+        &mut out,
+    )
+    .context("printing the answers")?;
     out.flush().context("printing the answers")
 }

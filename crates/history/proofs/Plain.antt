@@ -19,7 +19,7 @@ module _ {Header Rule Row : Type 0} (k : Meaning Header Rule Row) (room : ℕ) w
   never : {A : Type 0} (v : Result (Unit {0}) Refusal) (refusal : Refusal) → v ≡ Err refusal → v ≡ Ok tt → A
   never v refusal e f = absurd (err_ok (sym e ∙ f))
 
-  says_one : {p : Plain Rule} {tally : ℕ} {call : AnyCall Rule Header} {a b : Answer} {q r : Plain Rule} → Says k room p tally call a q → Says k room p tally call b r → (a ≡ b) × (q ≡ r)
+  pub says_one : {p : Plain Rule} {tally : ℕ} {call : AnyCall Rule Header} {a b : Answer} {q r : Plain Rule} → Says k room p tally call a q → Says k room p tally call b r → (a ≡ b) × (q ≡ r)
   says_one {call = call} (Says.refuses {refusal = x} e) (Says.refuses {refusal = y} f) = (ap (λ z. Refused (at (line_of call) z)) (err_one (sym e ∙ f)), refl)
   says_one (Says.refuses {refusal = x} e) (Says.puts f) = never _ x e f
   says_one (Says.refuses {refusal = x} e) (Says.strikes f) = never _ x e f

@@ -5,3 +5,4 @@ pub mod Jobs
 pub mod Replies
 pub mod PlainJobs
 pub mod Runs
+pub mod Facts

@@ -2,6 +2,7 @@
 ghost use Rattle.std.specs.Prelude.{◌≡◌};
 ghost use Rattle.job.specs.Jobs.{lent};
 ghost use Rattle.job.specs.Runs.{RunsThrough, Runs};
+ghost use Rattle.job.specs.Facts.{FindsTheLowest, OneAnswer};
 
 use super::fault::Fault;
 use super::machine::Job;
@@ -34,6 +35,7 @@ fn run_through<W: io::Write>(
 }
 
 // Runs a job on lent memory: a line is printed for each record that chooses, looks up, or is refused.
+#[tactic(auto, using(crate::proofs::Facts::one_answer, crate::proofs::Facts::finds_the_lowest))]
 pub fn run<W: io::Write>(
     job: &[u8],
     routed: &mut [Line<routed::Row>],
@@ -42,7 +44,9 @@ pub fn run<W: io::Write>(
     tally: &mut [u32],
     out: &mut W,
 ) -> io::Result<()>
-    ensures { Runs (lent routed.old bridge.old area.old tally.old) (lent routed.new bridge.new area.new tally.new) job.now (W.contents out.old) (W.contents out.new) result }
+    ensures run { Runs (lent routed.old bridge.old area.old tally.old) (lent routed.new bridge.new area.new tally.new) job.now (W.contents out.old) (W.contents out.new) result }
+    ensures lowest { FindsTheLowest }
+    ensures one_answer { OneAnswer }
 {
     if job.len() > MOST_BYTES {
         let reply = Reply {
