@@ -30,7 +30,7 @@ use Rattle.history.proofs.Answers.{did}
 use Rattle.history.proofs.Standing.{Stands, replaced_rules, replaced_length}
 use Rattle.history.proofs.Facts.{made_is}
 use Rattle.history.proofs.Steps.{step_kept}
-use Rattle.job.specs.Books.{only_lines, Aside, IsChange, IsChoice, IsMade, found_told, Acts, Carries}
+use Rattle.job.specs.Books.{only_lines, Aside, AnswersChange, AnswersChoice, IsMade, found_told, Acts, Carries}
 use Rattle.job.specs.PlainJobs.{PlainBook, opened, laid, told, BookSays, book_checks, AsksCall}
 use Rattle.job.specs.declared.answer.Answer.{Answer}
 use Rattle.job.specs.declared.answer.Answer.TheVariants.{Done, Chosen, Found}
@@ -127,7 +127,7 @@ module _ {Header Rule Row K : Type 0} (k : Meaning Header Rule Row) (law : Lawfu
       abbrev IsCall : Result (Unit {0}) TableFault → Type 0
       IsCall = Answers (at line) (λ (_ : Unit {0}). Replaced line IsNew m.lines left.lines) (only_lines m) (only_lines left) (verdict (lines_checks book.lines (length m.lines) ++ checks call))
 
-      changed : (answer : Result Answer Fault) → IsChange IsCall answer → StepKept m left p (Ok call) after answer
+      changed : (answer : Result Answer Fault) → AnswersChange IsCall answer → StepKept m left p (Ok call) after answer
       changed (Ok Done) d =
           let does = did (at line) (λ (_ : Unit {0}). Replaced line IsNew m.lines left.lines) (only_lines m) (only_lines left) _ tt d in
           let long = replaced_length k line IsNew m.lines left.lines does.1 in
@@ -213,7 +213,7 @@ module _ {Header Rule Row K : Type 0} (k : Meaning Header Rule Row) (law : Lawfu
       relaid_by : (r : Result (Unit {0}) TableFault) → Did r → StepKept m left (laid now) (Ok call) after (told (of_change r))
       relaid_by r d = subst (λ f. StepKept m left (laid now) (Ok call) f (told (of_change r))) (sym same) (stepped table call (of_change r) refl (tally r d) (step r d))
 
-      relaid : (answer : Result Answer Fault) → IsChange Did answer → StepKept m left (laid now) (Ok call) after answer
+      relaid : (answer : Result Answer Fault) → AnswersChange Did answer → StepKept m left (laid now) (Ok call) after answer
       relaid (Ok Done) d = relaid_by (Ok tt) d
       relaid (Ok (Chosen _)) d = absurd d
       relaid (Ok (Found _ _)) d = absurd d
@@ -237,7 +237,7 @@ module _ {Header Rule Row K : Type 0} (k : Meaning Header Rule Row) (law : Lawfu
           (tally_after (at 0) (Anew k table.shape m left asked.judge asked.limits after.shape) m left first.tally (λ x does. does.tally) t _ r d.answers)
           (Step.chooses m.tally left.tally r refl d)
 
-      anew : (after : LaidTable K) (answer : Result Answer Fault) → IsChoice (Asks after) answer → StepKept m left (laid now) (Ok (Choose asked)) (Laid after) answer
+      anew : (after : LaidTable K) (answer : Result Answer Fault) → AnswersChoice (Asks after) answer → StepKept m left (laid now) (Ok (Choose asked)) (Laid after) answer
       anew after (Ok (Chosen choice)) d = anew_by after (Ok choice) d
       anew after (Ok Done) d = absurd d
       anew after (Ok (Found _ _)) d = absurd d

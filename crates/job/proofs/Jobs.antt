@@ -23,7 +23,7 @@ use Rattle.records.specs.declared.request.Request.TheVariants as request
 use Rattle.job.specs.Readings.{Reading, routed_reading, bridge_reading}
 use Rattle.job.specs.Books.{is_laid, call_in, lines_of, open_checks, IsOpened}
 use Rattle.job.specs.Jobs.{Lent, own_of, routed_in, bridge_in, Serves, OpensRouted, OpensBridge, Steps, AnswersTo}
-use Rattle.job.specs.PlainJobs.{Lengths, PlainBook, opened, laid, has_table, AsksCall, AsksBook, PlainJob, unopened, routed, bridge, empty, Opens, Answers}
+use Rattle.job.specs.PlainJobs.{Lengths, PlainBook, opened, laid, has_table, AsksCall, AsksBook, PlainJob, unopened, routed, bridge, empty, Opens, PlainAnswers}
 use Rattle.job.specs.Runs.{lengths_of}
 use Rattle.job.specs.declared.answer.Answer.{Answer}
 use Rattle.job.specs.declared.answer.Answer.TheVariants.{Done, Chosen, Found}
@@ -57,13 +57,13 @@ module _ {Header Rule Row K : Type 0} (k : Meaning Header Rule Row) (law : Lawfu
   stands_lines (Open _) m (laid _) s = absurd s
   stands_lines (Laid _) m (opened _) s = absurd s
 
-  pub record BookKept (left : Memory Row) (p : PlainBook Rule) (reading : Reading Header Rule) (request : Request) (after : Filter K) (answer : Result Answer Fault) : Type 0 where
+  pub record BookKept (left : Memory Row) (p : PlainBook Rule) (reading : Reading Header Rule Row) (request : Request) (after : Filter K) (answer : Result Answer Fault) : Type 0 where
     pub next : PlainBook Rule
     pub asks : AsksBook k (length first.area) (length first.tally) reading p request answer next
     pub stands : StandsBook after left next
     pub tally : TallyIs first.tally left.tally
 
-  pub serve_kept : (reading : Reading Header Rule) (m left : Memory Row) (book after : Filter K) (p : PlainBook Rule) (request : Request) (answer : Result Answer Fault)
+  pub serve_kept : (reading : Reading Header Rule Row) (m left : Memory Row) (book after : Filter K) (p : PlainBook Rule) (request : Request) (answer : Result Answer Fault)
       → StandsBook book m p → TallyIs first.tally m.tally → Serves k reading m left book request after answer → BookKept left p reading request after answer
   serve_kept reading m left book after p request answer s t serves =
       let n = lines_of book in
@@ -126,7 +126,7 @@ module _ (first : Lent) where
 
   pub record JobKept (left : Lent) (p : PlainJob) (v : Result Request RecordRefusal) (after : Job) (answer : Result Answer Fault) : Type 0 where
     pub next : PlainJob
-    pub answers : Answers (lengths_of first) p v answer next
+    pub answers : PlainAnswers (lengths_of first) p v answer next
     pub stands : StandsJob after left next
     pub tally : TallyIs first.tally left.tally
 
@@ -170,10 +170,10 @@ module _ (first : Lent) where
     stays machine p s after same is = subst (λ j. StandsJob j left p) (sym same) (subst (λ x. StandsJob machine x p) (sym is) s)
 
     -- a request that can't be served before anything is open
-    too_early : (v : Request) (after : Job) (answer : Result Answer Fault) → StandsJob job.Unopened m unopened → Answers (lengths_of first) unopened (Ok v) (Err fault.OutOfOrder) unopened → (after ≡ job.Unopened) × (left ≡ m) × (answer ≡ Err fault.OutOfOrder) → JobKept left unopened (Ok v) after answer
+    too_early : (v : Request) (after : Job) (answer : Result Answer Fault) → StandsJob job.Unopened m unopened → PlainAnswers (lengths_of first) unopened (Ok v) (Err fault.OutOfOrder) unopened → (after ≡ job.Unopened) × (left ≡ m) × (answer ≡ Err fault.OutOfOrder) → JobKept left unopened (Ok v) after answer
     too_early v after answer s says d = record {
       next = unopened;
-      answers = subst (λ a. Answers (lengths_of first) unopened (Ok v) a unopened) (sym d.2) says;
+      answers = subst (λ a. PlainAnswers (lengths_of first) unopened (Ok v) a unopened) (sym d.2) says;
       stands = stays job.Unopened unopened s after d.0 d.1;
       tally = still first.tally m.tally left.tally t (ap (λ (x : Lent). x.tally) d.1);
     }

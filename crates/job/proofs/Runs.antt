@@ -1,5 +1,5 @@
 -- A job that was read and replied to so far, record by record.
-use Rattle.std.proofs.Common.{◌≡◌, inl, ℕ, ◌≤◌, List, [], ◌∷◌, ◌++◌, length, take, drop, Some, None, Ok, Err, Option, Result, IfOk, IsErr, sym, refl, ap, ◌∙◌, subst, arith}
+use Rattle.std.proofs.Common.{◌≡◌, inl, ℕ, ◌≤◌, List, [], ◌∷◌, ◌++◌, length, take, drop, Some, None, Ok, Err, Option, Result, IfOk, IfErr, IsErr, false, true, sym, refl, ap, ◌∙◌, subst, arith}
 use Rattle.std.specs.Io.KnownBytes.{Appends}
 use Rattle.std.proofs.lemmas.Bool.{true≢false}
 use Rattle.std.proofs.lemmas.List.{length-map, append-nil, append_assoc, flat_map_more}
@@ -14,13 +14,17 @@ use Rattle.layout.specs.Layout.{laid as laid_area}
 use Rattle.table.specs.Calls.{Memory}
 use Rattle.history.specs.Plain.{Plain}
 use Rattle.records.specs.Requests.{request_of}
-use Rattle.records.specs.Records.{Reads, Walked}
+use Rattle.records.specs.Records.{Reads, Walks}
+use Rattle.records.proofs.Walks.{walks_more}
 use Rattle.records.specs.declared.record.Record.{Record}
 use Rattle.records.specs.declared.record.CutOff.{CutOff}
-use Rattle.job.specs.Jobs.{Lent, routed_in, bridge_in, Replies}
+use Rattle.job.specs.Jobs.{Lent, routed_in, bridge_in, Replies, Lives}
 use Rattle.job.specs.PlainJobs.{PlainBook, opened, laid, PlainJob, unopened, routed, bridge, Says, Tells}
-use Rattle.job.specs.Replies.{reply_text, replies_text}
+use Rattle.job.specs.Replies.{answer_text, reply_text, replies_text, is_told, prints}
 use Rattle.job.specs.Runs.{lengths_of, HoldsRules, HoldsBook, Holds, Ran, RunsThrough}
+use Rattle.job.specs.declared.answer.Answer.{Answer}
+use Rattle.job.specs.declared.answer.Answer.TheVariants.{Done, Chosen, Found}
+use Rattle.job.specs.declared.fault.Fault.{Fault}
 use Rattle.job.specs.declared.reply.Reply.{Reply}
 use Rattle.job.specs.declared.filter.Filter.{Filter}
 use Rattle.job.specs.declared.filter.Filter.TheVariants.{Open, Laid}
@@ -74,22 +78,37 @@ module _ (first : Lent) (file : List ℕ) where
   job_holds (job.Bridge _) m unopened s = absurd s
   job_holds (job.Bridge _) m (routed _) s = absurd s
 
+  -- one more is read, and replied to
+  lives_more : (machine last next : Job) (m left after : Lent) (reads : List (Result Record CutOff)) (replies : List Reply) (read : Result Record CutOff) (reply : Reply)
+      → Lives machine m reads replies last left → Replies left after last read next reply → Lives machine m (reads ++ read ∷ []) (replies ++ reply ∷ []) next after
+  lives_more machine last next m left after [] [] read reply lived d = (next, after, subst (λ j. Replies m after j read next reply) lived.0 (subst (λ x. Replies x after last read next reply) lived.1 d), (refl, refl))
+  lives_more machine last next m left after (_ ∷ reads) (_ ∷ replies) read reply lived d = (lived.0, lived.1, lived.2, lives_more lived.0 last next lived.1 left after reads replies read reply lived.3 d)
+  lives_more machine last next m left after [] (_ ∷ _) read reply lived d = absurd lived
+  lives_more machine last next m left after (_ ∷ _) [] read reply lived d = absurd lived
+
+  tells_more : (p q next : PlainJob) (reads : List (Result Record CutOff)) (replies : List Reply) (read : Result Record CutOff) (reply : Reply)
+      → Tells (lengths_of first) p reads replies q → Says (lengths_of first) q read reply next → Tells (lengths_of first) p (reads ++ read ∷ []) (replies ++ reply ∷ []) next
+  tells_more p q next [] [] read reply told says = (next, subst (λ x. Says (lengths_of first) x read reply next) told says, refl)
+  tells_more p q next (_ ∷ reads) (_ ∷ replies) read reply told says = (told.0, told.1, tells_more told.0 q next reads replies read reply told.2 says)
+  tells_more p q next [] (_ ∷ _) read reply told says = absurd told
+  tells_more p q next (_ ∷ _) [] read reply told says = absurd told
+
   -- what was read and replied up to a place
   pub record SoFar (machine : Job) (m : Lent) (at : ℕ) (replies : List Reply) : Type 0 where
     pub reads : List (Result Record CutOff)
     pub book : PlainJob
-    pub walked : Walked file reads at
-    pub tells : Tells (lengths_of first) reads replies book
+    pub walked : Walks file 0 reads at
+    pub lived : Lives job.Unopened first reads replies machine m
+    pub tells : Tells (lengths_of first) unopened reads replies book
     pub stands : StandsJob first machine m book
     pub tally : TallyIs first.tally m.tally
 
   so_far_ran : (machine : Job) (m : Lent) (at : ℕ) (replies : List Reply) → SoFar machine m at replies → Ran first m file at replies
-  so_far_ran machine m at replies s = record { reads = s.reads; book = s.book; walked = s.walked; tells = s.tells; holds = job_holds machine m s.book s.stands; tally = s.tally }
+  so_far_ran machine m at replies s = record { reads = s.reads; walked = s.walked; machine = machine; lived = s.lived; book = s.book; tells = s.tells; holds = job_holds machine m s.book s.stands; tally = s.tally }
 
-  nothing_read : SoFar job.Unopened first 0 []
-  nothing_read = record { reads = []; book = unopened; walked = Walked.nothing_yet; tells = Tells.nothing_yet; stands = (refl, refl, refl); tally = inl refl }
+  nothing_read : (at : ℕ) → at ≡ 0 → SoFar job.Unopened first at []
+  nothing_read at e = record { reads = []; book = unopened; walked = e; lived = (refl, refl); tells = refl; stands = (refl, refl, refl); tally = inl refl }
 
-  -- one more is read
   record Replied (left : Lent) (p : PlainJob) (read : Result Record CutOff) (after : Job) (reply : Reply) : Type 0 where
     next : PlainJob
     says : Says (lengths_of first) p read reply next
@@ -110,8 +129,9 @@ module _ (first : Lent) (file : List ℕ) where
       record {
         reads = s.reads ++ read ∷ [];
         book = kept.next;
-        walked = Walked.one_more read s.walked reads;
-        tells = Tells.one_more read reply s.tells kept.says;
+        walked = walks_more file 0 at next s.reads read s.walked reads;
+        lived = lives_more job.Unopened machine after first m left s.reads replies read reply s.lived d;
+        tells = tells_more unopened s.book kept.next s.reads replies read reply s.tells kept.says;
         stands = kept.stands;
         tally = kept.tally;
       }
@@ -123,11 +143,15 @@ module _ (first : Lent) (file : List ℕ) where
     pub text : Appends before after (replies_text replies)
 
   pub nothing_printed : (before : Option (List ℕ)) (at : ℕ) → at ≡ 0 → Printed before job.Unopened first at before
-  nothing_printed before at e = record { replies = []; so_far = subst (λ n. SoFar job.Unopened first n []) (sym e) nothing_read; text = append_nothing before }
+  nothing_printed before at e = record { replies = []; so_far = nothing_read at e; text = append_nothing before }
 
   no_print : {E : Type 0} (P : Unit {0} → Type 0) (r : Result (Unit {0}) E) → IsErr r → IfOk r P
   no_print P (Ok _) failed = absurd (true≢false (sym failed))
   no_print P (Err _) failed = tt
+
+  if_failed : {E : Type 0} (P : Type 0) (r : Result (Unit {0}) E) → P → IfErr r (λ _. P)
+  if_failed P (Ok _) p = tt
+  if_failed P (Err _) p = p
 
   -- by a reader of the job
   abbrev pub WalksIn : List ℕ → ℕ → Option (Result Record CutOff) → ℕ → Type 0
@@ -136,19 +160,39 @@ module _ (first : Lent) (file : List ℕ) where
   reads_file : (bytes : List ℕ) (at : ℕ) (read : Option (Result Record CutOff)) (then : ℕ) → WalksIn bytes at read then → Reads file at read then
   reads_file bytes at read then w = subst (λ f. Reads f at read then) w.0 w.1
 
+  -- a reply that has no line adds nothing to the text
+  no_line : (answer : Result Answer Fault) (offset : ℕ) → is_told answer ≡ false → answer_text offset answer ≡ []
+  no_line (Ok Done) offset e = refl
+  no_line (Ok (Chosen _)) offset e = absurd (true≢false e)
+  no_line (Ok (Found _ _)) offset e = absurd (true≢false e)
+  no_line (Err _) offset e = absurd (true≢false e)
+
   module _ (before so_far_out : Option (List ℕ)) (machine next : Job) (m left : Lent) (at then : ℕ) (read : Result Record CutOff) (reply : Reply)
       (s : Printed before machine m at so_far_out) (bytes : List ℕ) (walks : WalksIn bytes at (Some read) then) (d : Replies m left machine read next reply) where
+    replied : SoFar next left then (s.replies ++ reply ∷ [])
+    replied = one_read machine next m left at then s.replies read reply s.so_far (reads_file bytes at (Some read) then walks) d
+
     pub one_printed : (after : Option (List ℕ)) → Appends so_far_out after (reply_text reply) → Printed before next left then after
     one_printed after wrote = record {
       replies = s.replies ++ reply ∷ [];
-      so_far = one_read machine next m left at then s.replies read reply s.so_far (reads_file bytes at (Some read) then walks) d;
+      so_far = replied;
       text = subst (Appends before after) (flat_map_more reply_text [] s.replies reply) (append_more before so_far_out after (replies_text s.replies) (reply_text reply) s.text wrote);
     }
 
-    -- printing failed
-    pub not_printed : {E : Type 0} (after : Option (List ℕ)) (r : Result (Unit {0}) E) → IsErr r → RunsThrough first left file before after r
-    not_printed after r failed = record { at = then; replies = s.replies ++ reply ∷ []; ran = so_far_ran next left then (s.replies ++ reply ∷ []) (one_read machine next m left at then s.replies read reply s.so_far (reads_file bytes at (Some read) then walks) d); all = no_print _ r failed }
+    -- there was no line to print
+    pub none_printed : prints reply ≡ false → Printed before next left then so_far_out
+    none_printed e = one_printed so_far_out (subst (Appends so_far_out so_far_out) (sym (no_line reply.answer reply.offset e)) (append_nothing so_far_out))
+
+    -- printing the line failed
+    pub not_printed : {E : Type 0} (after : Option (List ℕ)) (r : Result (Unit {0}) E) → IsErr r → prints reply ≡ true → RunsThrough first left file before after r
+    not_printed after r failed line = record {
+      at = then;
+      replies = s.replies ++ reply ∷ [];
+      ran = so_far_ran next left then (s.replies ++ reply ∷ []) replied;
+      all = no_print _ r failed;
+      failed = if_failed _ r (s.replies, reply, refl, line);
+    }
 
   -- all is read
   pub all_printed : {E : Type 0} (before after : Option (List ℕ)) (machine : Job) (m : Lent) (at : ℕ) → Printed before machine m at after → at ≤ length file → (bytes : List ℕ) (then : ℕ) → WalksIn bytes at None then → RunsThrough first m file {E = E} before after (Ok tt)
-  all_printed before after machine m at s inside bytes then w = record { at = at; replies = s.replies; ran = so_far_ran machine m at s.replies s.so_far; all = (omega (arith, inside, (reads_file bytes at None then w).0), s.text) }
+  all_printed before after machine m at s inside bytes then w = record { at = at; replies = s.replies; ran = so_far_ran machine m at s.replies s.so_far; all = (omega (arith, inside, (reads_file bytes at None then w).0), s.text); failed = tt }

@@ -1,12 +1,13 @@
--- The machine of a job: what each record does, for all inputs.
---     Lent      the memory of a job: the lines of each kind, an area and a tally
---     own_of    the part of it that is a book's
---     Serves    a request to a book, over the lines that it was opened with
---     Steps     a request to the machine
---     Answers   a record
---     Replies   what a reader gives: a record, or the place where the job is cut off
+-- The machine of a job: what each record does, for memory of any content.
+--     Lent, lent                   the memory of a job: the lines of each kind, an area and a tally
+--     routed_in, bridge_in, own_of the part of it that one kind's book is lent; of that, what is the book's own
+--     Serves                       a request to a book, on what is its own
+--     OpensRouted, OpensBridge     an opening
+--     Steps, Answers               a request to the machine; a record, by what it asks for (AnswersTo)
+--     Replies                      what a reader gives: a record, or the place where the job is cut off
+--     Lives                        what a reader gives in order, each with its reply
 -- Assumes nothing.
-use Rattle.std.specs.Prelude.{◌≡◌, ℕ, List, take, drop, Ok, Err, Result}
+use Rattle.std.specs.Prelude.{◌≡◌, ℕ, List, [], ◌∷◌, take, drop, Ok, Err, Result}
 use Rattle.kinds.specs.declared.line.Line.{Line}
 use Rattle.kinds.specs.Meaning.{Meaning}
 use Rattle.routed.specs.Routed.{routed}
@@ -24,7 +25,7 @@ use Rattle.records.specs.declared.refusal.Refusal.TheVariants as refused
 use Rattle.records.specs.declared.request.Request.{Request}
 use Rattle.records.specs.declared.request.Request.TheVariants.{OpenRouted, OpenBridge}
 use Rattle.job.specs.Readings.{Reading, routed_reading, bridge_reading}
-use Rattle.job.specs.Books.{lines_of, IsOpened, Takes}
+use Rattle.job.specs.Books.{lines_of, IsOpened, Aside, Takes}
 use Rattle.job.specs.declared.answer.Answer.{Answer}
 use Rattle.job.specs.declared.answer.Answer.TheVariants.{Done}
 use Rattle.job.specs.declared.fault.Fault.{Fault}
@@ -48,7 +49,7 @@ abbrev pub own_of : {Row : Type 0} → ℕ → Memory Row → Memory Row
 own_of count lent = memory (take count lent.lines) lent.area lent.tally
 
 -- one of the books of a job, with the lines that are lent for it; the lines behind those of the book stay as they are
-module _ {Header Rule Row K : Type 0} (k : Meaning Header Rule Row) (reading : Reading Header Rule) where
+module _ {Header Rule Row K : Type 0} (k : Meaning Header Rule Row) (reading : Reading Header Rule Row) where
   pub record Serves (found left : Memory Row) (book : Filter K) (request : Request) (after : Filter K) (answer : Result Answer Fault) : Type 0 where
     pub takes : Takes k (own_of (lines_of book) found) (own_of (lines_of book) left) reading book request after answer
     pub others : drop (lines_of book) left.lines ≡ drop (lines_of book) found.lines
@@ -61,19 +62,14 @@ abbrev pub bridge_in : Lent → Memory BridgeRow
 bridge_in m = memory m.bridge m.area m.tally
 
 module _ (found left : Lent) where
-  -- what an opening leaves aside
-  pub record Unused : Type 0 where
-    pub area : left.area ≡ found.area
-    pub tally : left.tally ≡ found.tally
-
   abbrev pub OpensRouted : ℕ → Job → Result Answer Fault → Type 0
-  OpensRouted count (job.Routed book) (Ok Done) = IsOpened count found.routed left.routed (Ok book) × (left.bridge ≡ found.bridge) × Unused
-  OpensRouted count job.Unopened (Err (fault.Table refused)) = IsOpened {K = Routed} count found.routed left.routed (Err refused) × (left.bridge ≡ found.bridge) × Unused
+  OpensRouted count (job.Routed book) (Ok Done) = IsOpened count found.routed left.routed (Ok book) × (left.bridge ≡ found.bridge) × Aside (routed_in found) (routed_in left)
+  OpensRouted count job.Unopened (Err (fault.Table refused)) = IsOpened {K = Routed} count found.routed left.routed (Err refused) × (left.bridge ≡ found.bridge) × Aside (routed_in found) (routed_in left)
   OpensRouted count _ _ = ⊥
 
   abbrev pub OpensBridge : ℕ → Job → Result Answer Fault → Type 0
-  OpensBridge count (job.Bridge book) (Ok Done) = IsOpened count found.bridge left.bridge (Ok book) × (left.routed ≡ found.routed) × Unused
-  OpensBridge count job.Unopened (Err (fault.Table refused)) = IsOpened {K = Bridge} count found.bridge left.bridge (Err refused) × (left.routed ≡ found.routed) × Unused
+  OpensBridge count (job.Bridge book) (Ok Done) = IsOpened count found.bridge left.bridge (Ok book) × (left.routed ≡ found.routed) × Aside (bridge_in found) (bridge_in left)
+  OpensBridge count job.Unopened (Err (fault.Table refused)) = IsOpened {K = Bridge} count found.bridge left.bridge (Err refused) × (left.routed ≡ found.routed) × Aside (bridge_in found) (bridge_in left)
   OpensBridge count _ _ = ⊥
 
   abbrev pub Steps : Job → Request → Job → Result Answer Fault → Type 0
@@ -94,3 +90,9 @@ module _ (found left : Lent) where
   abbrev pub Replies : Job → Result Record CutOff → Job → Reply → Type 0
   Replies machine (Ok this) after reply = (reply.offset ≡ this.offset) × Answers machine this after reply.answer
   Replies machine (Err cut) after reply = (after ≡ machine) × (left ≡ found) × (reply.offset ≡ cut.offset) × (reply.answer ≡ Err (fault.Record refused.CutOff))
+
+-- what a reader gives in order, each with its reply: from one machine and memory to another
+abbrev pub Lives : Job → Lent → List (Result Record CutOff) → List Reply → Job → Lent → Type 0
+Lives machine m [] [] last left = (last ≡ machine) × (left ≡ m)
+Lives machine m (read ∷ reads) (reply ∷ replies) last left = (next : Job) × (after : Lent) × Replies m after machine read next reply × Lives next after reads replies last left
+Lives machine m _ _ last left = ⊥

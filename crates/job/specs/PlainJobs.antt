@@ -1,11 +1,14 @@
 -- The plain book of a job: what its records mean, without lent memory, area or marks.
---     Lengths     how much memory a job is lent
---     PlainBook   a book: open, by a rule or none for each line; or the plain book of a table
---     BookSays    a call on it: the answer, and the book that is left
---     AsksBook    a request to it: the call that is asked for, or why it is refused before the book is asked
---     PlainJob    nothing is open yet, or a book of some kind
---     Asks, Says  a request to it, and what a reader gives: a record, or the place where the job is cut off
---     Tells       what a reader gives in order, each with its reply
+--     Lengths               how much memory a job is lent
+--     PlainBook, has_table  a book: open, by a rule or none for each line; or the plain book of a table
+--     told                  what a table answers, as the job tells it
+--     book_checks, BookSays what an open book refuses; a call on a book: the answer, and the book that is left
+--     AsksBook              a request to it: the call that is asked for, or why it is refused before the book is asked (AsksCall)
+--     PlainJob              nothing is open yet, or a book of some kind
+--     Opens                 an opening, by the verdict on its count
+--     Asks, PlainAnswers    a request to a plain job; a record, by what it asks for
+--     Says                  what a reader gives: a record, or the place where the job is cut off
+--     Tells                 what a reader gives in order, each with its reply
 -- Assumes nothing.
 use Rattle.std.specs.Prelude.{◌≡◌, ℕ, Bool, true, false, List, [], ◌∷◌, ◌++◌, replicate, Some, None, Ok, Err, Option, Result, slice_set}
 use Rattle.kinds.specs.Meaning.{Meaning}
@@ -83,7 +86,7 @@ module _ {Header Rule Row : Type 0} (k : Meaning Header Rule Row) (room tally : 
   AsksCall p (Ok call) answer q = BookSays p call answer q
   AsksCall p (Err fault) answer q = (answer ≡ Err fault) × (q ≡ p)
 
-  abbrev pub AsksBook : Reading Header Rule → PlainBook Rule → Request → Result Answer Fault → PlainBook Rule → Type 0
+  abbrev pub AsksBook : Reading Header Rule Row → PlainBook Rule → Request → Result Answer Fault → PlainBook Rule → Type 0
   AsksBook reading p request = AsksCall p (call_in reading (has_table p) request)
 
 pub data PlainJob : Type 0 where
@@ -108,14 +111,15 @@ module _ (m : Lengths) where
   Asks (bridge p) request = λ answer q. (after : PlainBook BridgeRule) × AsksBook bridge_kind m.area m.tally bridge_reading p request answer after × (q ≡ bridge after)
 
   -- by what the record asks for, if it is no refused one
-  abbrev pub Answers : PlainJob → Result Request RecordRefusal → Result Answer Fault → PlainJob → Type 0
-  Answers p (Ok request) answer q = Asks p request answer q
-  Answers p (Err refusal) answer q = (answer ≡ Err (fault.Record refusal)) × (q ≡ p)
+  abbrev pub PlainAnswers : PlainJob → Result Request RecordRefusal → Result Answer Fault → PlainJob → Type 0
+  PlainAnswers p (Ok request) answer q = Asks p request answer q
+  PlainAnswers p (Err refusal) answer q = (answer ≡ Err (fault.Record refusal)) × (q ≡ p)
 
   abbrev pub Says : PlainJob → Result Record CutOff → Reply → PlainJob → Type 0
-  Says p (Ok this) reply q = (reply.offset ≡ this.offset) × Answers p (request_of this) reply.answer q
+  Says p (Ok this) reply q = (reply.offset ≡ this.offset) × PlainAnswers p (request_of this) reply.answer q
   Says p (Err cut) reply q = (reply.offset ≡ cut.offset) × (reply.answer ≡ Err (fault.Record refused.CutOff)) × (q ≡ p)
 
-  pub data Tells : List (Result Record CutOff) → List Reply → PlainJob → Type 0 where
-    nothing_yet : Tells [] [] unopened
-    one_more : {reads : List (Result Record CutOff)} {replies : List Reply} {p q : PlainJob} (read : Result Record CutOff) (reply : Reply) → Tells reads replies p → Says p read reply q → Tells (reads ++ read ∷ []) (replies ++ reply ∷ []) q
+  abbrev pub Tells : PlainJob → List (Result Record CutOff) → List Reply → PlainJob → Type 0
+  Tells p [] [] q = q ≡ p
+  Tells p (read ∷ reads) (reply ∷ replies) q = (next : PlainJob) × Says p read reply next × Tells next reads replies q
+  Tells p _ _ q = ⊥

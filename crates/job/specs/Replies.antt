@@ -1,8 +1,9 @@
 -- What is printed: every byte of each line.
 --     reply_text    the line of a reply; nothing where something was only done
 --     replies_text  the lines of some replies
+--     prints        whether a reply has a line (is_told)
 -- Assumes nothing.
-use Rattle.std.specs.Prelude.{ℕ, List, [], ◌++◌, length, Some, None, Ok, Err, Option, Result, codes, flat_map}
+use Rattle.std.specs.Prelude.{ℕ, Bool, true, false, List, [], ◌++◌, length, Some, None, Ok, Err, Option, Result, codes, flat_map}
 use Rattle.std.specs.Fmt.{decimal}
 use Rattle.kinds.specs.Codes.{code_text}
 use Rattle.choice.specs.Outcomes.{outcome_text}
@@ -22,8 +23,16 @@ answer_text offset (Ok (Chosen choice)) = codes "bits " ++ decimal (length choic
 answer_text offset (Ok (Found line tried)) = line_text line ++ codes " " ++ decimal tried ++ codes "\n"
 answer_text offset (Err fault) = codes "refused " ++ code_text (code_of fault) ++ codes " at " ++ decimal offset ++ codes "\n"
 
+abbrev pub is_told : Result Answer Fault → Bool
+is_told (Ok Done) = false
+is_told _ = true
+
 abbrev pub reply_text : Reply → List ℕ
 reply_text reply = answer_text reply.offset reply.answer
 
 abbrev pub replies_text : List Reply → List ℕ
 replies_text = flat_map reply_text
+
+-- all but what was only done
+abbrev pub prints : Reply → Bool
+prints reply = is_told reply.answer

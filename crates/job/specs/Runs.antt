@@ -4,7 +4,7 @@
 --     RunsThrough, TooLong   what a run of it printed
 --     Runs                   a run of any job
 -- Assumes nothing.
-use Rattle.std.specs.Prelude.{◌≡◌, ℕ, ◌⊎◌, ◌<◌, ◌≤◌, List, length, take, drop, Err, Option, Result, IfOk}
+use Rattle.std.specs.Prelude.{◌≡◌, ℕ, ◌⊎◌, ◌<◌, ◌≤◌, true, List, [], ◌∷◌, ◌++◌, length, take, drop, Ok, Err, Option, Result, IfOk, IfErr}
 use Rattle.std.specs.Io.KnownBytes.{Appends}
 use Rattle.kinds.specs.Meaning.{Meaning}
 use Rattle.kinds.specs.Lines.{rules_of}
@@ -12,15 +12,17 @@ use Rattle.layout.specs.Layout.{laid}
 use Rattle.routed.specs.Routed.{routed as routed_kind}
 use Rattle.bridge.specs.Bridge.{bridge as bridge_kind}
 use Rattle.table.specs.Calls.{Memory, zeros}
-use Rattle.records.specs.Records.{Walked}
+use Rattle.records.specs.Records.{Walks}
 use Rattle.records.specs.declared.record.Record.{Record}
 use Rattle.records.specs.declared.record.CutOff.{CutOff}
 use Rattle.records.specs.declared.refusal.Refusal.TheVariants as refused
-use Rattle.job.specs.Jobs.{Lent, routed_in, bridge_in}
+use Rattle.job.specs.Jobs.{Lent, routed_in, bridge_in, Lives}
 use Rattle.job.specs.PlainJobs as plain
 use Rattle.job.specs.PlainJobs.{Lengths, PlainBook, PlainJob, Tells}
-use Rattle.job.specs.Replies.{reply_text, replies_text}
+use Rattle.job.specs.Replies.{reply_text, replies_text, prints}
 use Rattle.job.specs.declared.fault.Fault.TheVariants as fault
+use Rattle.job.specs.declared.machine.Job.{Job}
+use Rattle.job.specs.declared.machine.Job.TheVariants as job
 use Rattle.job.specs.declared.reply.Reply.{Reply}
 
 abbrev pub lengths_of : Lent → Lengths
@@ -42,23 +44,31 @@ module _ (found left : Lent) where
   Holds (plain.routed p) = HoldsBook routed_kind (routed_in found) (routed_in left) p × (left.bridge ≡ found.bridge)
   Holds (plain.bridge p) = HoldsBook bridge_kind (bridge_in found) (bridge_in left) p × (left.routed ≡ found.routed)
 
-  module _ (job : List ℕ) where
+  module _ (bytes : List ℕ) where
     -- how far the job was read, and what was replied
     pub record Ran (at : ℕ) (replies : List Reply) : Type 0 where
       pub reads : List (Result Record CutOff)
+      pub walked : Walks bytes 0 reads at
+      -- memory is as the calls on it left it
+      pub machine : Job
+      pub lived : Lives job.Unopened found reads replies machine left
+      -- and the plain job says the same
       pub book : PlainJob
-      pub walked : Walked job reads at
-      pub tells : Tells (lengths_of found) reads replies book
+      pub tells : Tells (lengths_of found) plain.unopened reads replies book
       pub holds : Holds book
-      -- the tally is as it was found until something counts
       pub tally : (left.tally ≡ found.tally) ⊎ (left.tally ≡ zeros found.tally)
 
-    -- all of it is read and each reply printed, unless printing fails
+    -- some replies, of which the last has a line
+    abbrev pub EndsInALine : List Reply → Type 0
+    EndsInALine replies = (earlier : List Reply) × (last : Reply) × (replies ≡ earlier ++ last ∷ []) × (prints last ≡ true)
+
+    -- all of it is read and each line printed, unless printing a line fails
     pub record RunsThrough {E : Type 0} (before after : Option (List ℕ)) (result : Result (Unit {0}) E) : Type 0 where
       pub at : ℕ
       pub replies : List Reply
       pub ran : Ran at replies
-      pub all : IfOk result (λ _. (at ≡ length job) × Appends before after (replies_text replies))
+      pub all : IfOk result (λ _. (at ≡ length bytes) × Appends before after (replies_text replies))
+      pub failed : IfErr result (λ _. EndsInALine replies)
 
     -- a job of more bytes than may be is cut off where it begins, and nothing of it is carried out
     pub record TooLong {E : Type 0} (before after : Option (List ℕ)) (result : Result (Unit {0}) E) : Type 0 where
@@ -66,5 +76,5 @@ module _ (found left : Lent) where
       pub told : IfOk result (λ _. Appends before after (reply_text (record { offset = 0; answer = Err (fault.Record refused.CutOff) })))
 
     pub record Runs {E : Type 0} (before after : Option (List ℕ)) (result : Result (Unit {0}) E) : Type 0 where
-      pub short : length job ≤ 65536 → RunsThrough before after result
-      pub long : 65536 < length job → TooLong before after result
+      pub short : length bytes ≤ 65536 → RunsThrough before after result
+      pub long : 65536 < length bytes → TooLong before after result

@@ -2,7 +2,10 @@
 ghost use Rattle.std.specs.Prelude.{◌≡◌, take, drop};
 ghost use Rattle.kinds.specs.Checks.{◌and_then◌};
 ghost use Rattle.table.specs.Calls.{memory, looks_up};
-ghost use Rattle.job.specs.Books.{lines_of, found_told, IsOpened, Takes};
+ghost use Rattle.job.specs.Books.{lines_of, asking, put_of, found_told, IsOpened, Acts, Carries, Takes};
+ghost use Rattle.history.specs.Turns.{priced};
+ghost use Rattle.history.specs.declared.turn.Call.TheVariants as call;
+ghost use Rattle.records.specs.Judges.{named_cost};
 ghost use Rattle.records.specs.declared.request.Request.TheVariants as request_of;
 
 use super::answer::Answer;
@@ -11,8 +14,14 @@ use super::recorded::Recorded;
 use choice::Limits;
 use history::Asked;
 use kinds::Line;
-use records::{NamedJudge, Request, Row};
+use records::{NamedJudge, Request};
 use table::{LaidTable, OpenBook, Refusal, Refused};
+
+// More than a choice may be asked, which stands for a judge that there is not.
+const TOO_MUCH: Limits = Limits {
+    most_bits: 255,
+    most_tries: 0,
+};
 
 #[derive(Drop)]
 pub enum Filter<K> {
@@ -31,11 +40,11 @@ where
         area: &mut [u32],
         tally: &mut [u32],
         line: usize,
-        row: Row,
+        row: K::Row,
     ) -> Result<Answer, Fault>
-        ensures { Takes K.meaning (memory lines.old area.old tally.old) (memory lines.new area.new tally.new) K.reading self.now (request_of.Put line row) self.now result }
+        ensures { Carries K.meaning (memory lines.old area.old tally.old) (memory lines.new area.new tally.new) self.now (put_of K.reading line row) self.now result }
     {
-        let rule = K::rule_in(row)?;
+        let rule = K::read_rule(row)?;
         match self {
             Filter::Open(book) => book.put(lines, line, &rule)?,
             Filter::Laid(table) => table.put(lines, area, tally, line, &rule)?,
@@ -66,20 +75,13 @@ where
         lines: &[Line<K::Row>],
         area: &mut [u32],
         tally: &mut [u32],
-        judge: Option<NamedJudge>,
-        limits: Limits,
+        asked: &Asked<NamedJudge>,
     ) -> (Filter<K>, Result<Answer, Fault>)
-        ensures { Takes K.meaning (memory lines.now area.old tally.old) (memory lines.now area.new tally.new) K.reading self (request_of.Choose judge limits) result.0 result.1 }
+        ensures { Acts K.meaning (memory lines.now area.old tally.old) (memory lines.now area.new tally.new) self (call.Choose (priced named_cost asked.now)) result.0 result.1 }
     {
-        let Some(judge) = judge else {
-            return (
-                self,
-                Err(Fault::Table(table::Fault::from(Refusal::TooMuchAsked))),
-            );
-        };
         match self {
             Filter::Open(book) => {
-                match history::make(book, lines, area, tally, &Asked { judge, limits }) {
+                match history::make(book, lines, area, tally, asked) {
                     Ok((table, choice)) => (Filter::Laid(table), Ok(Answer::Chosen(choice))),
                     Err(Refused { state, fault }) => (
                         Filter::Open(state),
@@ -88,7 +90,7 @@ where
                 }
             }
             Filter::Laid(mut table) => {
-                match table.choose(lines, area, &judge, limits, tally) {
+                match table.choose(lines, area, &asked.judge, asked.limits, tally) {
                     Ok(choice) => (Filter::Laid(table), Ok(Answer::Chosen(choice))),
                     Err(fault) => (Filter::Laid(table), Err(Fault::Table(fault))),
                 }
@@ -143,7 +145,10 @@ where
     {
         match (self, request) {
             (filter, Request::Put { line, row }) => {
-                let answer = filter.put(lines, area, tally, line, row);
+                let answer = match K::row_in(row) {
+                    Some(row) => filter.put(lines, area, tally, line, row),
+                    None => Err(Fault::OutOfOrder),
+                };
                 (filter, answer)
             }
             (filter, Request::Strike { line }) => {
@@ -151,7 +156,7 @@ where
                 (filter, answer)
             }
             (filter, Request::Choose { judge, limits }) => {
-                filter.choose(lines, area, tally, judge, limits)
+                filter.choose(lines, area, tally, &asking(judge, limits))
             }
             (Filter::Laid(table), Request::LookUp { packet }) => {
                 let answer = look_up(&table, lines, area, packet);
@@ -171,9 +176,23 @@ fn look_up<K: Recorded>(
 ) -> Result<Answer, Fault>
 where
     K::Header: Drop,
-    ensures { result ≡ (K.reading.header_in packet.now and_then λ header. found_told (looks_up K.meaning table.now.shape header lines.now area.now)) }
+    ensures { result ≡ (K.reading.header_of packet.now and_then λ header. found_told (looks_up K.meaning table.now.shape header lines.now area.now)) }
 {
-    let header = K::header_in(packet)?;
+    let header = K::read_header(packet)?;
     let (line, tried) = table.look_up(lines, area, &header)?;
     Ok(Answer::Found(line, tried))
+}
+
+// What is asked of a choice, by a judge if there is one.
+fn asking(judge: Option<NamedJudge>, limits: Limits) -> Asked<NamedJudge>
+    ensures { result ≡ asking judge limits }
+{
+    match judge {
+        Some(judge) => Asked { judge, limits },
+        // It is refused where too many bits are.
+        None => Asked {
+            judge: NamedJudge::Largest,
+            limits: TOO_MUCH,
+        },
+    }
 }

@@ -5,32 +5,39 @@ ghost use Rattle.job.specs.Readings.{Reading, routed_reading, bridge_reading};
 use super::fault::Fault;
 use bridge::Bridge;
 use kinds::Kind;
-use records::Row;
 use routed::Routed;
 
 pub trait Recorded: Kind {
-    ghost reading: { Reading Self.Header Self.Rule };
+    ghost reading: { Reading Self.Header Self.Rule Self.Row };
 
-    // The rule of a row: out of order where the row is another kind's.
-    fn rule_in(row: Row) -> Result<Self::Rule, Fault>
-        ensures { result ≡ reading.rule_in row };
+    // The row of a record, if it is one of the kind's.
+    fn row_in(row: records::Row) -> Option<Self::Row>
+        ensures { result ≡ reading.row_in row };
 
-    // The header of a packet or a frame.
-    fn header_in(packet: &[u8]) -> Result<Self::Header, Fault>
-        ensures { result ≡ reading.header_in packet.now };
+    // The rule of a row, or why it holds none.
+    fn read_rule(row: Self::Row) -> Result<Self::Rule, Fault>
+        ensures { result ≡ reading.rule_of row };
+
+    // The header of a packet or a frame, or why it has none.
+    fn read_header(packet: &[u8]) -> Result<Self::Header, Fault>
+        ensures { result ≡ reading.header_of packet.now };
 }
 
 impl Recorded for Routed {
     ghost reading = { routed_reading };
 
-    fn rule_in(row: Row) -> Result<routed::Rule, Fault> {
+    fn row_in(row: records::Row) -> Option<routed::Row> {
         match row {
-            Row::Routed(row) => Ok(routed::Rule::try_from(row)?),
-            Row::Bridge(_) => Err(Fault::OutOfOrder),
+            records::Row::Routed(row) => Some(row),
+            records::Row::Bridge(_) => None,
         }
     }
 
-    fn header_in(packet: &[u8]) -> Result<routed::Header, Fault> {
+    fn read_rule(row: routed::Row) -> Result<routed::Rule, Fault> {
+        Ok(routed::Rule::try_from(row)?)
+    }
+
+    fn read_header(packet: &[u8]) -> Result<routed::Header, Fault> {
         Ok(routed::Header::read(packet)?)
     }
 }
@@ -38,14 +45,18 @@ impl Recorded for Routed {
 impl Recorded for Bridge {
     ghost reading = { bridge_reading };
 
-    fn rule_in(row: Row) -> Result<bridge::Rule, Fault> {
+    fn row_in(row: records::Row) -> Option<bridge::Row> {
         match row {
-            Row::Bridge(row) => Ok(bridge::Rule::try_from(row)?),
-            Row::Routed(_) => Err(Fault::OutOfOrder),
+            records::Row::Bridge(row) => Some(row),
+            records::Row::Routed(_) => None,
         }
     }
 
-    fn header_in(packet: &[u8]) -> Result<bridge::Header, Fault> {
+    fn read_rule(row: bridge::Row) -> Result<bridge::Rule, Fault> {
+        Ok(bridge::Rule::try_from(row)?)
+    }
+
+    fn read_header(packet: &[u8]) -> Result<bridge::Header, Fault> {
         Ok(bridge::Header::read(packet)?)
     }
 }

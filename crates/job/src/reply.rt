@@ -1,6 +1,6 @@
 // The line that is printed for a record.
-ghost use Rattle.std.specs.Prelude.{Some};
-ghost use Rattle.job.specs.Replies.{reply_text};
+ghost use Rattle.std.specs.Prelude.{◌≡◌, Some};
+ghost use Rattle.job.specs.Replies.{prints, reply_text};
 
 use super::answer::Answer;
 use super::fault::Fault;
@@ -12,6 +12,15 @@ use std::fmt;
 pub struct Reply {
     pub offset: usize,
     pub answer: Result<Answer, Fault>,
+}
+
+impl Reply {
+    // Whether it has a line.
+    pub(crate) fn prints(&self) -> bool
+        ensures { result ≡ prints self.now }
+    {
+        !matches!(self.answer, Ok(Answer::Done))
+    }
 }
 
 // One line with its end, or nothing where something was only done.

@@ -29,7 +29,9 @@ fn run_through<W: io::Write>(
     for read in Reader::new(job) {
         let (next, reply) = machine.reply(routed, bridge, area, tally, read);
         machine = next;
-        write!(out, "{reply}")?;
+        if reply.prints() {
+            write!(out, "{reply}")?;
+        }
     }
     Ok(())
 }

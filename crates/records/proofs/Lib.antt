@@ -1,0 +1,3 @@
+pub mod Walks
+pub mod Tiles
+pub mod Requests

@@ -2,9 +2,12 @@
 --     little_endian   the number that some bytes from a place on write, the least significant first
 --     IsCutOff        the job ends inside the record that begins at a place
 --     Reads           what a reader at a place of the job gives, and the place where it goes on
---     Walked          what a reader has given in order up to a place: the first record begins at 0, and each where the one before it ended
+--     Walks           what a reader gives in order from a place on, up to another: each record begins where the one before it ended
+--     bytes_of        the bytes of the job that a record takes up
+--     PartsTile       laid end to end, the records of a job are the job
+--     Alike           two readings that say the same
 -- Assumes nothing.
-use Rattle.std.specs.Prelude.{◌≡◌, ℕ, zero, suc, ◌+◌, ◌*◌, ◌≤◌, ◌<◌, Bool, true, ◌||◌, List, [], ◌∷◌, ◌++◌, length, Some, None, Ok, Err, Option, Result, nat_lt, slice_index, slice_range}
+use Rattle.std.specs.Prelude.{◌≡◌, ℕ, zero, suc, ◌+◌, ◌*◌, ◌≤◌, ◌<◌, Bool, true, ◌||◌, List, [], ◌∷◌, ◌++◌, length, drop, Some, None, Ok, Err, Option, Result, nat_lt, slice_index, slice_range, flat_map}
 use Rattle.records.specs.declared.record.Record.{Record}
 use Rattle.records.specs.declared.record.CutOff.{CutOff}
 
@@ -33,6 +36,22 @@ module _ (job : List ℕ) where
   Reads at (Some (Ok this)) next = Is at this next
   Reads at (Some (Err cut)) next = (at < length job) × IsCutOff at cut × (next ≡ length job)
 
-  pub data Walked : List (Result Record CutOff) → ℕ → Type 0 where
-    nothing_yet : Walked [] 0
-    one_more : {reads : List (Result Record CutOff)} {at next : ℕ} (read : Result Record CutOff) → Walked reads at → Reads at (Some read) next → Walked (reads ++ read ∷ []) next
+  -- what a reader gives in order from a place on, up to another: each record begins where the one before it ended
+  abbrev pub Walks : ℕ → List (Result Record CutOff) → ℕ → Type 0
+  Walks at [] end = end ≡ at
+  Walks at (read ∷ reads) end = (next : ℕ) × Reads at (Some read) next × Walks next reads end
+
+  -- a record's head and its body, as they stand in the job; where it is cut off, the rest of the job
+  abbrev pub bytes_of : Result Record CutOff → List ℕ
+  bytes_of (Ok this) = slice_range job this.offset (this.offset + 4) ++ this.body.now
+  bytes_of (Err cut) = drop cut.offset job
+
+-- laid end to end they are the job
+abbrev pub PartsTile : Type 0
+PartsTile = (job : List ℕ) (reads : List (Result Record CutOff)) → Walks job 0 reads (length job) → flat_map (bytes_of job) reads ≡ job
+
+-- two readings that say the same: only where their bytes lie in memory may differ
+abbrev pub Alike : Result Record CutOff → Result Record CutOff → Type 0
+Alike (Ok this) (Ok other) = (other.offset ≡ this.offset) × (other.kind ≡ this.kind) × (other.body.now ≡ this.body.now)
+Alike (Err cut) (Err other) = other.offset ≡ cut.offset
+Alike _ _ = ⊥

@@ -1,7 +1,7 @@
 // Walking the records of a job.
 ghost use Rattle.std.specs.Prelude.{◌≡◌, ◌+◌, ◌-◌, ◌≤◌, length, IfOk, IfErr};
 ghost use Rattle.std.specs.Iterator.{at_most};
-ghost use Rattle.records.specs.Records.{Is, IsCutOff, Reads};
+ghost use Rattle.records.specs.Records.{Is, IsCutOff, Reads, PartsTile};
 
 use super::record::{CutOff, Record};
 
@@ -15,9 +15,11 @@ pub struct Reader<'a> {
 
 impl<'a> Reader<'a> {
     // A reader of a job's first record.
+    #[tactic(auto, using(crate::proofs::Tiles::parts_tile))]
     pub fn new(job: &'a [u8]) -> Reader<'a>
         ensures job { result.job.now ≡ job.now }
         ensures at { result.at ≡ 0 }
+        ensures tiles { PartsTile }
     {
         Reader { job, at: 0 }
     }
