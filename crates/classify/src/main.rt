@@ -3,12 +3,10 @@
 
 use anyhow::{Context, Result};
 use bridge::Octets;
+use job::LONGEST_JOB;
 use kinds::Line;
 use std::alloc::{AllocError, Global};
 use std::io::{self, BufWriter, Read, Write};
-
-// One byte more than a job may have, so that a longer one is seen to be too long.
-const BYTES: u64 = 65537;
 
 // How much memory a job is lent: lines of either kind, an area and a tally.
 const LINES: usize = 1024;
@@ -24,10 +22,12 @@ const NOTHING: Octets = Octets {
     last: 0,
 };
 
-// The bytes of the job.
+// The bytes of the job, or one more than it may have, by which it is seen to be too long.
 fn read_job(rt: &(impl Input + Alloc<A = Global>)) -> io::Result<Vec<u8>> {
     let mut job = Vec::new(rt.alloc());
-    rt.reader().take(BYTES).read_to_end(&mut job)?;
+    rt.reader()
+        .take(LONGEST_JOB as u64 + 1)
+        .read_to_end(&mut job)?;
     Ok(job)
 }
 

@@ -16,7 +16,7 @@ use Rattle.history.specs.declared.turn.Answer.TheVariants.{Chosen, Found, Refuse
 use Rattle.history.proofs.Walks.{walks_one}
 
 module _ {Header Rule Row : Type 0} (k : Meaning Header Rule Row) (room : ℕ) where
-  never : {A : Type 0} (v : Result (Unit {0}) Refusal) (refusal : Refusal) → v ≡ Err refusal → v ≡ Ok tt → A
+  pub never : {A : Type 0} (v : Result (Unit {0}) Refusal) (refusal : Refusal) → v ≡ Err refusal → v ≡ Ok tt → A
   never v refusal e f = absurd (err_ok (sym e ∙ f))
 
   pub says_one : {p : Plain Rule} {tally : ℕ} {call : AnyCall Rule Header} {a b : Answer} {q r : Plain Rule} → Says k room p tally call a q → Says k room p tally call b r → (a ≡ b) × (q ≡ r)

@@ -1,5 +1,5 @@
 -- What holds of every plain job: its look-ups name the lowest line, and it answers in one way.
-use Rattle.std.proofs.Common.{◌≡◌, ℕ, List, [], ◌∷◌, ◌++◌, length, Ok, Err, Result, sym, refl, ap, ap₂, ◌∙◌, subst, arith}
+use Rattle.std.proofs.Common.{◌≡◌, ℕ, List, [], ◌∷◌, length, Ok, Err, Result, sym, refl, ap, ap₂, ◌∙◌, subst, arith}
 use Rattle.std.specs.Borrow.{Bor}
 use Rattle.kinds.specs.Meaning.{Meaning}
 use Rattle.kinds.specs.Checks.{◌and_then◌}
@@ -13,7 +13,7 @@ use Rattle.table.proofs.Calls.{err_ok, err_one}
 use Rattle.history.specs.Turns.{AnyCall, line_of}
 use Rattle.history.specs.Plain.{Plain, Says as TableSays}
 use Rattle.history.specs.declared.turn.Call.TheVariants.{LookUp as FindLine}
-use Rattle.history.proofs.Plain.{says_one}
+use Rattle.history.proofs.Plain.{never, says_one}
 use Rattle.records.specs.Records.{Walks, Alike}
 use Rattle.records.specs.Requests.{SameRequest, request_of}
 use Rattle.records.proofs.Walks.{reads_on, reads_alike}
@@ -26,7 +26,7 @@ use Rattle.records.specs.declared.request.Request.{Request}
 use Rattle.records.specs.declared.request.Request.TheVariants as request
 use Rattle.job.specs.Readings.{Reading, routed_reading, bridge_reading}
 use Rattle.job.specs.PlainJobs.{Lengths, PlainBook, opened, laid, told, BookSays, AsksCall, PlainJob, unopened, routed, bridge, Opens, Asks, PlainAnswers, Says, Tells}
-use Rattle.job.specs.Facts.{NamesLowest, FindsInBook, FindsTheLowest, OneAnswer}
+use Rattle.job.specs.Facts.{NamesLowest, FindsInBook, LooksUpLowest, OneAnswer}
 use Rattle.job.specs.declared.answer.Answer.{Answer}
 use Rattle.job.specs.declared.answer.Answer.TheVariants.{Chosen}
 use Rattle.job.specs.declared.fault.Fault.{Fault}
@@ -34,9 +34,6 @@ use Rattle.job.specs.declared.fault.Fault.TheVariants as fault
 use Rattle.job.specs.declared.reply.Reply.{Reply}
 
 module _ {Header Rule Row : Type 0} (k : Meaning Header Rule Row) (room tally : ℕ) where
-  never : {A : Type 0} (v : Result (Unit {0}) Refusal) (refusal : Refusal) → v ≡ Err refusal → v ≡ Ok tt → A
-  never v refusal e f = absurd (err_ok (sym e ∙ f))
-
   -- a table's look-up
   table_finds : (table : Plain Rule) (header : Header) (answer : Result Answer Fault) (next : PlainBook Rule) → BookSays k room tally (laid table) (FindLine header) answer next → NamesLowest k table.rules header answer
   table_finds table header answer next (BookSays.on_table (TableSays.looks_up found)) = found.lowest
@@ -44,14 +41,14 @@ module _ {Header Rule Row : Type 0} (k : Meaning Header Rule Row) (room tally : 
 
   book_one : {p : PlainBook Rule} {call : AnyCall Rule Header} {a b : Result Answer Fault} {q r : PlainBook Rule} → BookSays k room tally p call a q → BookSays k room tally p call b r → (a ≡ b) × (q ≡ r)
   book_one {call = call} (BookSays.refuses {refusal = x} e) (BookSays.refuses {refusal = y} f) = (ap (λ z. Err (fault.Table (at (line_of call) z))) (err_one (sym e ∙ f)), refl)
-  book_one (BookSays.refuses {refusal = x} e) (BookSays.puts f) = never _ x e f
-  book_one (BookSays.refuses {refusal = x} e) (BookSays.strikes f) = never _ x e f
-  book_one (BookSays.refuses {refusal = x} e) (BookSays.lays f _) = never _ x e f
-  book_one (BookSays.puts e) (BookSays.refuses {refusal = y} f) = never _ y f e
+  book_one (BookSays.refuses {refusal = x} e) (BookSays.puts f) = never k room _ x e f
+  book_one (BookSays.refuses {refusal = x} e) (BookSays.strikes f) = never k room _ x e f
+  book_one (BookSays.refuses {refusal = x} e) (BookSays.lays f _) = never k room _ x e f
+  book_one (BookSays.puts e) (BookSays.refuses {refusal = y} f) = never k room _ y f e
   book_one (BookSays.puts e) (BookSays.puts f) = (refl, refl)
-  book_one (BookSays.strikes e) (BookSays.refuses {refusal = y} f) = never _ y f e
+  book_one (BookSays.strikes e) (BookSays.refuses {refusal = y} f) = never k room _ y f e
   book_one (BookSays.strikes e) (BookSays.strikes f) = (refl, refl)
-  book_one (BookSays.lays e _) (BookSays.refuses {refusal = y} f) = never _ y f e
+  book_one (BookSays.lays e _) (BookSays.refuses {refusal = y} f) = never k room _ y f e
   book_one (BookSays.lays {rules} {asked} {choice} e c) (BookSays.lays {choice = other} f d) =
       let same : choice ≡ other = sym (only_choice k rules room asked.judge asked.limits choice c other d) in
       (ap (λ x. Ok (Chosen x)) same, ap (λ (x : Choice). laid (record { rules = rules; bits = x.bits })) same)
@@ -156,8 +153,8 @@ module _ {Header Rule Row : Type 0} (k : Meaning Header Rule Row) (reading : Rea
       let finds = subst (λ (h : Result Header Fault). AsksCall k m.area m.tally (laid table) (h and_then λ header. Ok (FindLine header)) reply.answer called.0) reads called.1 in
       table_finds k m.area m.tally table header reply.answer called.0 finds
 
-pub finds_the_lowest : FindsTheLowest
-finds_the_lowest = (
+pub looks_up_lowest : LooksUpLowest
+looks_up_lowest = (
   finds routed_kind routed_reading routed (λ m table packet answer after asks. (asks.0, asks.1)),
   finds bridge_kind bridge_reading bridge (λ m table packet answer after asks. (asks.0, asks.1)),
 )

@@ -31,8 +31,8 @@ use Rattle.job.specs.declared.fault.Fault.{Fault}
 use Rattle.job.specs.declared.fault.Fault.TheVariants as fault
 use Rattle.job.specs.declared.filter.Filter.{Filter}
 use Rattle.job.specs.declared.filter.Filter.TheVariants.{Open, Laid}
-use Rattle.job.specs.declared.machine.Job.{Job}
-use Rattle.job.specs.declared.machine.Job.TheVariants as job
+use Rattle.job.specs.declared.machine.Machine.{Machine}
+use Rattle.job.specs.declared.machine.Machine.TheVariants as job
 use Rattle.job.proofs.Books.{TallyIs, still, StandsAt, carries_kept, was_refused}
 
 -- lines that were emptied hold no rule
@@ -118,13 +118,13 @@ opens_err (Ok _) m book refusal found e is = absurd (err_ok (sym e))
 opens_err (Err own) m book refusal found e is = (ap (λ f. Err (fault.Table f)) (is ∙ ap (at 0) (sym (err_one e))), refl)
 
 module _ (first : Lent) where
-  abbrev pub StandsJob : Job → Lent → PlainJob → Type 0
+  abbrev pub StandsJob : Machine → Lent → PlainJob → Type 0
   StandsJob job.Unopened m unopened = (m.routed ≡ first.routed) × (m.bridge ≡ first.bridge) × (m.area ≡ first.area)
   StandsJob (job.Routed book) m (routed p) = StandsBook routed_kind routed_lawful (routed_in first) book (routed_in m) p × (m.bridge ≡ first.bridge)
   StandsJob (job.Bridge book) m (bridge p) = StandsBook bridge_kind bridge_lawful (bridge_in first) book (bridge_in m) p × (m.routed ≡ first.routed)
   StandsJob _ _ _ = ⊥
 
-  pub record JobKept (left : Lent) (p : PlainJob) (v : Result Request RecordRefusal) (after : Job) (answer : Result Answer Fault) : Type 0 where
+  pub record JobKept (left : Lent) (p : PlainJob) (v : Result Request RecordRefusal) (after : Machine) (answer : Result Answer Fault) : Type 0 where
     pub next : PlainJob
     pub answers : PlainAnswers (lengths_of first) p v answer next
     pub stands : StandsJob after left next
@@ -132,7 +132,7 @@ module _ (first : Lent) where
 
   module _ (m left : Lent) (t : TallyIs first.tally m.tally) where
     module _ (s : StandsJob job.Unopened m unopened) (count : ℕ) where
-      opens_routed : (after : Job) (answer : Result Answer Fault) → OpensRouted m left count after answer → JobKept left unopened (Ok (request.OpenRouted count)) after answer
+      opens_routed : (after : Machine) (answer : Result Answer Fault) → OpensRouted m left count after answer → JobKept left unopened (Ok (request.OpenRouted count)) after answer
       opens_routed (job.Routed book) (Ok Done) d =
           let kept = opened_kept routed_kind routed_lawful (routed_in first) count book (routed_in m) (routed_in left) s.0 s.2 d.2.area d.0 in
           record { next = routed (empty count); answers = opens_ok _ (lengths_of first) (routed (empty count)) kept.0; stands = (kept.1, d.1 ∙ s.1); tally = still first.tally m.tally left.tally t d.2.tally }
@@ -149,7 +149,7 @@ module _ (first : Lent) where
       opens_routed job.Unopened (Err (fault.Bridge _)) d = absurd d
       opens_routed (job.Bridge _) answer d = absurd d
 
-      opens_bridge : (after : Job) (answer : Result Answer Fault) → OpensBridge m left count after answer → JobKept left unopened (Ok (request.OpenBridge count)) after answer
+      opens_bridge : (after : Machine) (answer : Result Answer Fault) → OpensBridge m left count after answer → JobKept left unopened (Ok (request.OpenBridge count)) after answer
       opens_bridge (job.Bridge book) (Ok Done) d =
           let kept = opened_kept bridge_kind bridge_lawful (bridge_in first) count book (bridge_in m) (bridge_in left) s.1 s.2 d.2.area d.0 in
           record { next = bridge (empty count); answers = opens_ok _ (lengths_of first) (bridge (empty count)) kept.0; stands = (kept.1, d.1 ∙ s.0); tally = still first.tally m.tally left.tally t d.2.tally }
@@ -166,11 +166,11 @@ module _ (first : Lent) where
       opens_bridge job.Unopened (Err (fault.Bridge _)) d = absurd d
       opens_bridge (job.Routed _) answer d = absurd d
 
-    stays : (machine : Job) (p : PlainJob) → StandsJob machine m p → (after : Job) → after ≡ machine → left ≡ m → StandsJob after left p
+    stays : (machine : Machine) (p : PlainJob) → StandsJob machine m p → (after : Machine) → after ≡ machine → left ≡ m → StandsJob after left p
     stays machine p s after same is = subst (λ j. StandsJob j left p) (sym same) (subst (λ x. StandsJob machine x p) (sym is) s)
 
     -- a request that can't be served before anything is open
-    too_early : (v : Request) (after : Job) (answer : Result Answer Fault) → StandsJob job.Unopened m unopened → PlainAnswers (lengths_of first) unopened (Ok v) (Err fault.OutOfOrder) unopened → (after ≡ job.Unopened) × (left ≡ m) × (answer ≡ Err fault.OutOfOrder) → JobKept left unopened (Ok v) after answer
+    too_early : (v : Request) (after : Machine) (answer : Result Answer Fault) → StandsJob job.Unopened m unopened → PlainAnswers (lengths_of first) unopened (Ok v) (Err fault.OutOfOrder) unopened → (after ≡ job.Unopened) × (left ≡ m) × (answer ≡ Err fault.OutOfOrder) → JobKept left unopened (Ok v) after answer
     too_early v after answer s says d = record {
       next = unopened;
       answers = subst (λ a. PlainAnswers (lengths_of first) unopened (Ok v) a unopened) (sym d.2) says;
@@ -178,7 +178,7 @@ module _ (first : Lent) where
       tally = still first.tally m.tally left.tally t (ap (λ (x : Lent). x.tally) d.1);
     }
 
-    steps_kept : (machine : Job) (p : PlainJob) → StandsJob machine m p → (v : Request) (after : Job) (answer : Result Answer Fault) → Steps m left machine v after answer → JobKept left p (Ok v) after answer
+    steps_kept : (machine : Machine) (p : PlainJob) → StandsJob machine m p → (v : Request) (after : Machine) (answer : Result Answer Fault) → Steps m left machine v after answer → JobKept left p (Ok v) after answer
     steps_kept job.Unopened unopened s (request.OpenRouted count) after answer d = opens_routed s count after answer d
     steps_kept job.Unopened unopened s (request.OpenBridge count) after answer d = opens_bridge s count after answer d
     steps_kept job.Unopened unopened s (request.Put line row) after answer d = too_early (request.Put line row) after answer s (refl, refl) d
@@ -202,7 +202,7 @@ module _ (first : Lent) where
     steps_kept (job.Bridge _) (bridge _) s v job.Unopened answer d = absurd d
     steps_kept (job.Bridge _) (bridge _) s v (job.Routed _) answer d = absurd d
 
-    pub answers_kept : (machine : Job) (p : PlainJob) → StandsJob machine m p → (v : Result Request RecordRefusal) (after : Job) (answer : Result Answer Fault) → AnswersTo m left machine v after answer → JobKept left p v after answer
+    pub answers_kept : (machine : Machine) (p : PlainJob) → StandsJob machine m p → (v : Result Request RecordRefusal) (after : Machine) (answer : Result Answer Fault) → AnswersTo m left machine v after answer → JobKept left p v after answer
     answers_kept machine p s (Ok v) after answer d = steps_kept machine p s v after answer d
     answers_kept machine p s (Err refusal) after answer d = record {
       next = p;

@@ -1,5 +1,5 @@
 -- A job that was read and replied to so far, record by record.
-use Rattle.std.proofs.Common.{◌≡◌, inl, ℕ, ◌≤◌, List, [], ◌∷◌, ◌++◌, length, take, drop, Some, None, Ok, Err, Option, Result, IfOk, IfErr, IsErr, false, true, sym, refl, ap, ◌∙◌, subst, arith}
+use Rattle.std.proofs.Common.{◌≡◌, inl, ℕ, ◌≤◌, List, [], ◌∷◌, ◌++◌, length, take, drop, Some, None, Ok, Err, Option, Result, IfOk, IfErr, IsErr, true, sym, refl, ap, ◌∙◌, subst, arith}
 use Rattle.std.specs.Io.KnownBytes.{Appends}
 use Rattle.std.proofs.lemmas.Bool.{true≢false}
 use Rattle.std.proofs.lemmas.List.{length-map, append-nil, append_assoc, flat_map_more}
@@ -20,16 +20,13 @@ use Rattle.records.specs.declared.record.Record.{Record}
 use Rattle.records.specs.declared.record.CutOff.{CutOff}
 use Rattle.job.specs.Jobs.{Lent, routed_in, bridge_in, Replies, Lives}
 use Rattle.job.specs.PlainJobs.{PlainBook, opened, laid, PlainJob, unopened, routed, bridge, Says, Tells}
-use Rattle.job.specs.Replies.{answer_text, reply_text, replies_text, is_told, prints}
+use Rattle.job.specs.Replies.{reply_text, replies_text, has_line}
 use Rattle.job.specs.Runs.{lengths_of, HoldsRules, HoldsBook, Holds, Ran, RunsThrough}
-use Rattle.job.specs.declared.answer.Answer.{Answer}
-use Rattle.job.specs.declared.answer.Answer.TheVariants.{Done, Chosen, Found}
-use Rattle.job.specs.declared.fault.Fault.{Fault}
 use Rattle.job.specs.declared.reply.Reply.{Reply}
 use Rattle.job.specs.declared.filter.Filter.{Filter}
 use Rattle.job.specs.declared.filter.Filter.TheVariants.{Open, Laid}
-use Rattle.job.specs.declared.machine.Job.{Job}
-use Rattle.job.specs.declared.machine.Job.TheVariants as job
+use Rattle.job.specs.declared.machine.Machine.{Machine}
+use Rattle.job.specs.declared.machine.Machine.TheVariants as job
 use Rattle.job.proofs.Books.{TallyIs, still}
 use Rattle.job.proofs.Jobs.{StandsBook, StandsJob, answers_kept}
 
@@ -67,7 +64,7 @@ module _ {Header Rule Row K : Type 0} (k : Meaning Header Rule Row) (law : Lawfu
   book_holds (Laid table) m (opened rules) s = absurd s.own
 
 module _ (first : Lent) (file : List ℕ) where
-  job_holds : (machine : Job) (m : Lent) (p : PlainJob) → StandsJob first machine m p → Holds first m p
+  job_holds : (machine : Machine) (m : Lent) (p : PlainJob) → StandsJob first machine m p → Holds first m p
   job_holds job.Unopened m unopened s = s
   job_holds (job.Routed book) m (routed p) s = (book_holds routed_kind routed_lawful (routed_in first) book (routed_in m) p s.0, s.1)
   job_holds (job.Bridge book) m (bridge p) s = (book_holds bridge_kind bridge_lawful (bridge_in first) book (bridge_in m) p s.0, s.1)
@@ -79,7 +76,7 @@ module _ (first : Lent) (file : List ℕ) where
   job_holds (job.Bridge _) m (routed _) s = absurd s
 
   -- one more is read, and replied to
-  lives_more : (machine last next : Job) (m left after : Lent) (reads : List (Result Record CutOff)) (replies : List Reply) (read : Result Record CutOff) (reply : Reply)
+  lives_more : (machine last next : Machine) (m left after : Lent) (reads : List (Result Record CutOff)) (replies : List Reply) (read : Result Record CutOff) (reply : Reply)
       → Lives machine m reads replies last left → Replies left after last read next reply → Lives machine m (reads ++ read ∷ []) (replies ++ reply ∷ []) next after
   lives_more machine last next m left after [] [] read reply lived d = (next, after, subst (λ j. Replies m after j read next reply) lived.0 (subst (λ x. Replies x after last read next reply) lived.1 d), (refl, refl))
   lives_more machine last next m left after (_ ∷ reads) (_ ∷ replies) read reply lived d = (lived.0, lived.1, lived.2, lives_more lived.0 last next lived.1 left after reads replies read reply lived.3 d)
@@ -94,7 +91,7 @@ module _ (first : Lent) (file : List ℕ) where
   tells_more p q next (_ ∷ _) [] read reply told says = absurd told
 
   -- what was read and replied up to a place
-  pub record SoFar (machine : Job) (m : Lent) (at : ℕ) (replies : List Reply) : Type 0 where
+  pub record SoFar (machine : Machine) (m : Lent) (at : ℕ) (replies : List Reply) : Type 0 where
     pub reads : List (Result Record CutOff)
     pub book : PlainJob
     pub walked : Walks file 0 reads at
@@ -103,26 +100,26 @@ module _ (first : Lent) (file : List ℕ) where
     pub stands : StandsJob first machine m book
     pub tally : TallyIs first.tally m.tally
 
-  so_far_ran : (machine : Job) (m : Lent) (at : ℕ) (replies : List Reply) → SoFar machine m at replies → Ran first m file at replies
+  so_far_ran : (machine : Machine) (m : Lent) (at : ℕ) (replies : List Reply) → SoFar machine m at replies → Ran first m file at replies
   so_far_ran machine m at replies s = record { reads = s.reads; walked = s.walked; machine = machine; lived = s.lived; book = s.book; tells = s.tells; holds = job_holds machine m s.book s.stands; tally = s.tally }
 
   nothing_read : (at : ℕ) → at ≡ 0 → SoFar job.Unopened first at []
   nothing_read at e = record { reads = []; book = unopened; walked = e; lived = (refl, refl); tells = refl; stands = (refl, refl, refl); tally = inl refl }
 
-  record Replied (left : Lent) (p : PlainJob) (read : Result Record CutOff) (after : Job) (reply : Reply) : Type 0 where
+  record Replied (left : Lent) (p : PlainJob) (read : Result Record CutOff) (after : Machine) (reply : Reply) : Type 0 where
     next : PlainJob
     says : Says (lengths_of first) p read reply next
     stands : StandsJob first after left next
     tally : TallyIs first.tally left.tally
 
-  reply_kept : (machine after : Job) (m left : Lent) (p : PlainJob) → StandsJob first machine m p → TallyIs first.tally m.tally → (read : Result Record CutOff) (reply : Reply) → Replies m left machine read after reply → Replied left p read after reply
+  reply_kept : (machine after : Machine) (m left : Lent) (p : PlainJob) → StandsJob first machine m p → TallyIs first.tally m.tally → (read : Result Record CutOff) (reply : Reply) → Replies m left machine read after reply → Replied left p read after reply
   reply_kept machine after m left p s t (Ok this) reply d =
       let kept = answers_kept first m left t machine p s (request_of this) after reply.answer d.1 in
       record { next = kept.next; says = (d.0, kept.answers); stands = kept.stands; tally = kept.tally }
   reply_kept machine after m left p s t (Err cut) reply d =
       record { next = p; says = (d.2, d.3, refl); stands = subst (λ j. StandsJob first j left p) (sym d.0) (subst (λ x. StandsJob first machine x p) (sym d.1) s); tally = still first.tally m.tally left.tally t (ap (λ (x : Lent). x.tally) d.1) }
 
-  one_read : (machine after : Job) (m left : Lent) (at next : ℕ) (replies : List Reply) (read : Result Record CutOff) (reply : Reply)
+  one_read : (machine after : Machine) (m left : Lent) (at next : ℕ) (replies : List Reply) (read : Result Record CutOff) (reply : Reply)
       → SoFar machine m at replies → Reads file at (Some read) next → Replies m left machine read after reply → SoFar after left next (replies ++ reply ∷ [])
   one_read machine after m left at next replies read reply s reads d =
       let kept = reply_kept machine after m left s.book s.stands s.tally read reply d in
@@ -137,7 +134,7 @@ module _ (first : Lent) (file : List ℕ) where
       }
 
   -- and printed
-  pub record Printed (before : Option (List ℕ)) (machine : Job) (m : Lent) (at : ℕ) (after : Option (List ℕ)) : Type 0 where
+  pub record Printed (before : Option (List ℕ)) (machine : Machine) (m : Lent) (at : ℕ) (after : Option (List ℕ)) : Type 0 where
     pub replies : List Reply
     pub so_far : SoFar machine m at replies
     pub text : Appends before after (replies_text replies)
@@ -160,14 +157,7 @@ module _ (first : Lent) (file : List ℕ) where
   reads_file : (bytes : List ℕ) (at : ℕ) (read : Option (Result Record CutOff)) (then : ℕ) → WalksIn bytes at read then → Reads file at read then
   reads_file bytes at read then w = subst (λ f. Reads f at read then) w.0 w.1
 
-  -- a reply that has no line adds nothing to the text
-  no_line : (answer : Result Answer Fault) (offset : ℕ) → is_told answer ≡ false → answer_text offset answer ≡ []
-  no_line (Ok Done) offset e = refl
-  no_line (Ok (Chosen _)) offset e = absurd (true≢false e)
-  no_line (Ok (Found _ _)) offset e = absurd (true≢false e)
-  no_line (Err _) offset e = absurd (true≢false e)
-
-  module _ (before so_far_out : Option (List ℕ)) (machine next : Job) (m left : Lent) (at then : ℕ) (read : Result Record CutOff) (reply : Reply)
+  module _ (before so_far_out : Option (List ℕ)) (machine next : Machine) (m left : Lent) (at then : ℕ) (read : Result Record CutOff) (reply : Reply)
       (s : Printed before machine m at so_far_out) (bytes : List ℕ) (walks : WalksIn bytes at (Some read) then) (d : Replies m left machine read next reply) where
     replied : SoFar next left then (s.replies ++ reply ∷ [])
     replied = one_read machine next m left at then s.replies read reply s.so_far (reads_file bytes at (Some read) then walks) d
@@ -179,12 +169,8 @@ module _ (first : Lent) (file : List ℕ) where
       text = subst (Appends before after) (flat_map_more reply_text [] s.replies reply) (append_more before so_far_out after (replies_text s.replies) (reply_text reply) s.text wrote);
     }
 
-    -- there was no line to print
-    pub none_printed : prints reply ≡ false → Printed before next left then so_far_out
-    none_printed e = one_printed so_far_out (subst (Appends so_far_out so_far_out) (sym (no_line reply.answer reply.offset e)) (append_nothing so_far_out))
-
     -- printing the line failed
-    pub not_printed : {E : Type 0} (after : Option (List ℕ)) (r : Result (Unit {0}) E) → IsErr r → prints reply ≡ true → RunsThrough first left file before after r
+    pub not_printed : {E : Type 0} (after : Option (List ℕ)) (r : Result (Unit {0}) E) → IsErr r → has_line reply ≡ true → RunsThrough first left file before after r
     not_printed after r failed line = record {
       at = then;
       replies = s.replies ++ reply ∷ [];
@@ -194,5 +180,5 @@ module _ (first : Lent) (file : List ℕ) where
     }
 
   -- all is read
-  pub all_printed : {E : Type 0} (before after : Option (List ℕ)) (machine : Job) (m : Lent) (at : ℕ) → Printed before machine m at after → at ≤ length file → (bytes : List ℕ) (then : ℕ) → WalksIn bytes at None then → RunsThrough first m file {E = E} before after (Ok tt)
+  pub all_printed : {E : Type 0} (before after : Option (List ℕ)) (machine : Machine) (m : Lent) (at : ℕ) → Printed before machine m at after → at ≤ length file → (bytes : List ℕ) (then : ℕ) → WalksIn bytes at None then → RunsThrough first m file {E = E} before after (Ok tt)
   all_printed before after machine m at s inside bytes then w = record { at = at; replies = s.replies; ran = so_far_ran machine m at s.replies s.so_far; all = (omega (arith, inside, (reads_file bytes at None then w).0), s.text); failed = tt }

@@ -1,7 +1,7 @@
 -- What holds of every plain job.
 --     NamesLowest     an answer that names the lowest filled line whose rule matches, or none exactly when there is none
 --     FindsInBook     a record that looks up a packet gets such an answer from a laid table, whatever came before it
---     FindsTheLowest  the same in a job of either kind
+--     LooksUpLowest  the same in a job of either kind
 --     OneAnswer       a job is replied to in one way, and leaves one plain job
 -- Assumes nothing.
 use Rattle.std.specs.Prelude.{◌≡◌, ℕ, List, length, Ok, Option, Result}
@@ -35,8 +35,8 @@ module _ {Header Rule Row : Type 0} (k : Meaning Header Rule Row) where
       → Says m (of (laid table)) (Ok this) reply after
       → NamesLowest table.rules header reply.answer
 
-abbrev pub FindsTheLowest : Type 0
-FindsTheLowest = FindsInBook routed_kind routed_reading routed × FindsInBook bridge_kind bridge_reading bridge
+abbrev pub LooksUpLowest : Type 0
+LooksUpLowest = FindsInBook routed_kind routed_reading routed × FindsInBook bridge_kind bridge_reading bridge
 
 -- by the bytes of a job, all of which are read
 abbrev pub OneAnswer : Type 0

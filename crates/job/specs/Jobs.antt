@@ -3,7 +3,7 @@
 --     routed_in, bridge_in, own_of the part of it that one kind's book is lent; of that, what is the book's own
 --     Serves                       a request to a book, on what is its own
 --     OpensRouted, OpensBridge     an opening
---     Steps, Answers               a request to the machine; a record, by what it asks for (AnswersTo)
+--     Steps, AnswersRecord         a request to the machine; a record, by what it asks for (AnswersTo)
 --     Replies                      what a reader gives: a record, or the place where the job is cut off
 --     Lives                        what a reader gives in order, each with its reply
 -- Assumes nothing.
@@ -31,8 +31,8 @@ use Rattle.job.specs.declared.answer.Answer.TheVariants.{Done}
 use Rattle.job.specs.declared.fault.Fault.{Fault}
 use Rattle.job.specs.declared.fault.Fault.TheVariants as fault
 use Rattle.job.specs.declared.filter.Filter.{Filter}
-use Rattle.job.specs.declared.machine.Job.{Job}
-use Rattle.job.specs.declared.machine.Job.TheVariants as job
+use Rattle.job.specs.declared.machine.Machine.{Machine}
+use Rattle.job.specs.declared.machine.Machine.TheVariants as job
 use Rattle.job.specs.declared.reply.Reply.{Reply}
 
 pub record Lent : Type 0 where
@@ -62,17 +62,17 @@ abbrev pub bridge_in : Lent → Memory BridgeRow
 bridge_in m = memory m.bridge m.area m.tally
 
 module _ (found left : Lent) where
-  abbrev pub OpensRouted : ℕ → Job → Result Answer Fault → Type 0
+  abbrev pub OpensRouted : ℕ → Machine → Result Answer Fault → Type 0
   OpensRouted count (job.Routed book) (Ok Done) = IsOpened count found.routed left.routed (Ok book) × (left.bridge ≡ found.bridge) × Aside (routed_in found) (routed_in left)
   OpensRouted count job.Unopened (Err (fault.Table refused)) = IsOpened {K = Routed} count found.routed left.routed (Err refused) × (left.bridge ≡ found.bridge) × Aside (routed_in found) (routed_in left)
   OpensRouted count _ _ = ⊥
 
-  abbrev pub OpensBridge : ℕ → Job → Result Answer Fault → Type 0
+  abbrev pub OpensBridge : ℕ → Machine → Result Answer Fault → Type 0
   OpensBridge count (job.Bridge book) (Ok Done) = IsOpened count found.bridge left.bridge (Ok book) × (left.routed ≡ found.routed) × Aside (bridge_in found) (bridge_in left)
   OpensBridge count job.Unopened (Err (fault.Table refused)) = IsOpened {K = Bridge} count found.bridge left.bridge (Err refused) × (left.routed ≡ found.routed) × Aside (bridge_in found) (bridge_in left)
   OpensBridge count _ _ = ⊥
 
-  abbrev pub Steps : Job → Request → Job → Result Answer Fault → Type 0
+  abbrev pub Steps : Machine → Request → Machine → Result Answer Fault → Type 0
   Steps job.Unopened (OpenRouted count) after answer = OpensRouted count after answer
   Steps job.Unopened (OpenBridge count) after answer = OpensBridge count after answer
   Steps job.Unopened _ after answer = (after ≡ job.Unopened) × (left ≡ found) × (answer ≡ Err fault.OutOfOrder)
@@ -80,19 +80,19 @@ module _ (found left : Lent) where
   Steps (job.Bridge book) request (job.Bridge after) answer = Serves bridge bridge_reading (bridge_in found) (bridge_in left) book request after answer × (left.routed ≡ found.routed)
   Steps _ _ _ _ = ⊥
 
-  abbrev pub AnswersTo : Job → Result Request Refusal → Job → Result Answer Fault → Type 0
+  abbrev pub AnswersTo : Machine → Result Request Refusal → Machine → Result Answer Fault → Type 0
   AnswersTo machine (Ok request) after answer = Steps machine request after answer
   AnswersTo machine (Err refusal) after answer = (after ≡ machine) × (left ≡ found) × (answer ≡ Err (fault.Record refusal))
 
-  abbrev pub Answers : Job → Record → Job → Result Answer Fault → Type 0
-  Answers machine this = AnswersTo machine (request_of this)
+  abbrev pub AnswersRecord : Machine → Record → Machine → Result Answer Fault → Type 0
+  AnswersRecord machine this = AnswersTo machine (request_of this)
 
-  abbrev pub Replies : Job → Result Record CutOff → Job → Reply → Type 0
-  Replies machine (Ok this) after reply = (reply.offset ≡ this.offset) × Answers machine this after reply.answer
+  abbrev pub Replies : Machine → Result Record CutOff → Machine → Reply → Type 0
+  Replies machine (Ok this) after reply = (reply.offset ≡ this.offset) × AnswersRecord machine this after reply.answer
   Replies machine (Err cut) after reply = (after ≡ machine) × (left ≡ found) × (reply.offset ≡ cut.offset) × (reply.answer ≡ Err (fault.Record refused.CutOff))
 
 -- what a reader gives in order, each with its reply: from one machine and memory to another
-abbrev pub Lives : Job → Lent → List (Result Record CutOff) → List Reply → Job → Lent → Type 0
+abbrev pub Lives : Machine → Lent → List (Result Record CutOff) → List Reply → Machine → Lent → Type 0
 Lives machine m [] [] last left = (last ≡ machine) × (left ≡ m)
-Lives machine m (read ∷ reads) (reply ∷ replies) last left = (next : Job) × (after : Lent) × Replies m after machine read next reply × Lives next after reads replies last left
+Lives machine m (read ∷ reads) (reply ∷ replies) last left = (next : Machine) × (after : Lent) × Replies m after machine read next reply × Lives next after reads replies last left
 Lives machine m _ _ last left = ⊥

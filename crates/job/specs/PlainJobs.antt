@@ -10,7 +10,7 @@
 --     Says                  what a reader gives: a record, or the place where the job is cut off
 --     Tells                 what a reader gives in order, each with its reply
 -- Assumes nothing.
-use Rattle.std.specs.Prelude.{◌≡◌, ℕ, Bool, true, false, List, [], ◌∷◌, ◌++◌, replicate, Some, None, Ok, Err, Option, Result, slice_set}
+use Rattle.std.specs.Prelude.{◌≡◌, ℕ, Bool, true, false, List, [], ◌∷◌, replicate, Some, None, Ok, Err, Option, Result, slice_set}
 use Rattle.kinds.specs.Meaning.{Meaning}
 use Rattle.choice.specs.Choice.{IsChoice}
 use Rattle.choice.specs.declared.choice.Choice.{Choice}

@@ -1,7 +1,7 @@
 -- What is printed: every byte of each line.
 --     reply_text    the line of a reply; nothing where something was only done
 --     replies_text  the lines of some replies
---     prints        whether a reply has a line (is_told)
+--     has_line      whether a reply has a line (is_told)
 -- Assumes nothing.
 use Rattle.std.specs.Prelude.{ℕ, Bool, true, false, List, [], ◌++◌, length, Some, None, Ok, Err, Option, Result, codes, flat_map}
 use Rattle.std.specs.Fmt.{decimal}
@@ -34,5 +34,5 @@ abbrev pub replies_text : List Reply → List ℕ
 replies_text = flat_map reply_text
 
 -- all but what was only done
-abbrev pub prints : Reply → Bool
-prints reply = is_told reply.answer
+abbrev pub has_line : Reply → Bool
+has_line reply = is_told reply.answer

@@ -4,7 +4,7 @@
 --     RunsThrough, TooLong   what a run of it printed
 --     Runs                   a run of any job
 -- Assumes nothing.
-use Rattle.std.specs.Prelude.{◌≡◌, ℕ, ◌⊎◌, ◌<◌, ◌≤◌, true, List, [], ◌∷◌, ◌++◌, length, take, drop, Ok, Err, Option, Result, IfOk, IfErr}
+use Rattle.std.specs.Prelude.{◌≡◌, ℕ, ◌⊎◌, ◌<◌, ◌≤◌, true, List, [], ◌∷◌, ◌++◌, length, take, drop, Err, Option, Result, IfOk, IfErr}
 use Rattle.std.specs.Io.KnownBytes.{Appends}
 use Rattle.kinds.specs.Meaning.{Meaning}
 use Rattle.kinds.specs.Lines.{rules_of}
@@ -19,10 +19,10 @@ use Rattle.records.specs.declared.refusal.Refusal.TheVariants as refused
 use Rattle.job.specs.Jobs.{Lent, routed_in, bridge_in, Lives}
 use Rattle.job.specs.PlainJobs as plain
 use Rattle.job.specs.PlainJobs.{Lengths, PlainBook, PlainJob, Tells}
-use Rattle.job.specs.Replies.{reply_text, replies_text, prints}
+use Rattle.job.specs.Replies.{reply_text, replies_text, has_line}
 use Rattle.job.specs.declared.fault.Fault.TheVariants as fault
-use Rattle.job.specs.declared.machine.Job.{Job}
-use Rattle.job.specs.declared.machine.Job.TheVariants as job
+use Rattle.job.specs.declared.machine.Machine.{Machine}
+use Rattle.job.specs.declared.machine.Machine.TheVariants as job
 use Rattle.job.specs.declared.reply.Reply.{Reply}
 
 abbrev pub lengths_of : Lent → Lengths
@@ -50,7 +50,7 @@ module _ (found left : Lent) where
       pub reads : List (Result Record CutOff)
       pub walked : Walks bytes 0 reads at
       -- memory is as the calls on it left it
-      pub machine : Job
+      pub machine : Machine
       pub lived : Lives job.Unopened found reads replies machine left
       -- and the plain job says the same
       pub book : PlainJob
@@ -60,7 +60,7 @@ module _ (found left : Lent) where
 
     -- some replies, of which the last has a line
     abbrev pub EndsInALine : List Reply → Type 0
-    EndsInALine replies = (earlier : List Reply) × (last : Reply) × (replies ≡ earlier ++ last ∷ []) × (prints last ≡ true)
+    EndsInALine replies = (earlier : List Reply) × (last : Reply) × (replies ≡ earlier ++ last ∷ []) × (has_line last ≡ true)
 
     -- all of it is read and each line printed, unless printing a line fails
     pub record RunsThrough {E : Type 0} (before after : Option (List ℕ)) (result : Result (Unit {0}) E) : Type 0 where

@@ -1,6 +1,6 @@
 // The machine of a job: what is open, and what a record may ask of it.
 ghost use Rattle.std.specs.Prelude.{◌≡◌};
-ghost use Rattle.job.specs.Jobs.{lent, Steps, Answers, Replies};
+ghost use Rattle.job.specs.Jobs.{lent, Steps, AnswersRecord, Replies};
 
 use super::answer::Answer;
 use super::fault::Fault;
@@ -12,13 +12,13 @@ use records::{CutOff, Record, Refusal, Request};
 use routed::Routed;
 
 #[derive(Drop)]
-pub enum Job {
+pub enum Machine {
     Unopened,
     Routed(Filter<Routed>),
     Bridge(Filter<Bridge>),
 }
 
-impl Job {
+impl Machine {
     // Carries out a request.
     fn step(
         self,
@@ -27,27 +27,31 @@ impl Job {
         area: &mut [u32],
         tally: &mut [u32],
         request: Request<'_>,
-    ) -> (Job, Result<Answer, Fault>)
+    ) -> (Machine, Result<Answer, Fault>)
         ensures { Steps (lent routed.old bridge.old area.old tally.old) (lent routed.new bridge.new area.new tally.new) self request.entry result.0 result.1 }
     {
         match (self, request) {
-            (Job::Unopened, Request::OpenRouted { lines }) => match Filter::open(routed, lines) {
-                Ok(filter) => (Job::Routed(filter), Ok(Answer::Done)),
-                Err(fault) => (Job::Unopened, Err(Fault::Table(fault))),
+            (Machine::Unopened, Request::OpenRouted { lines }) => match Filter::open(
+                routed, lines,
+            ) {
+                Ok(filter) => (Machine::Routed(filter), Ok(Answer::Done)),
+                Err(fault) => (Machine::Unopened, Err(Fault::Table(fault))),
             },
-            (Job::Unopened, Request::OpenBridge { lines }) => match Filter::open(bridge, lines) {
-                Ok(filter) => (Job::Bridge(filter), Ok(Answer::Done)),
-                Err(fault) => (Job::Unopened, Err(Fault::Table(fault))),
+            (Machine::Unopened, Request::OpenBridge { lines }) => match Filter::open(
+                bridge, lines,
+            ) {
+                Ok(filter) => (Machine::Bridge(filter), Ok(Answer::Done)),
+                Err(fault) => (Machine::Unopened, Err(Fault::Table(fault))),
             },
-            (Job::Routed(filter), request) => {
+            (Machine::Routed(filter), request) => {
                 let (filter, answer) = filter.serve(routed, area, tally, request);
-                (Job::Routed(filter), answer)
+                (Machine::Routed(filter), answer)
             }
-            (Job::Bridge(filter), request) => {
+            (Machine::Bridge(filter), request) => {
                 let (filter, answer) = filter.serve(bridge, area, tally, request);
-                (Job::Bridge(filter), answer)
+                (Machine::Bridge(filter), answer)
             }
-            (Job::Unopened, _) => (Job::Unopened, Err(Fault::OutOfOrder)),
+            (Machine::Unopened, _) => (Machine::Unopened, Err(Fault::OutOfOrder)),
         }
     }
 
@@ -59,8 +63,8 @@ impl Job {
         area: &mut [u32],
         tally: &mut [u32],
         given: Record<'_>,
-    ) -> (Job, Result<Answer, Fault>)
-        ensures { Answers (lent routed.old bridge.old area.old tally.old) (lent routed.new bridge.new area.new tally.new) self given.entry result.0 result.1 }
+    ) -> (Machine, Result<Answer, Fault>)
+        ensures { AnswersRecord (lent routed.old bridge.old area.old tally.old) (lent routed.new bridge.new area.new tally.new) self given.entry result.0 result.1 }
     {
         match Request::try_from(given) {
             Ok(request) => self.step(routed, bridge, area, tally, request),
@@ -76,7 +80,7 @@ impl Job {
         area: &mut [u32],
         tally: &mut [u32],
         read: Result<Record<'_>, CutOff>,
-    ) -> (Job, Reply)
+    ) -> (Machine, Reply)
         ensures { Replies (lent routed.old bridge.old area.old tally.old) (lent routed.new bridge.new area.new tally.new) self read.entry result.0 result.1 }
     {
         match read {

@@ -1,11 +1,12 @@
 // The line that is printed for a record.
-ghost use Rattle.std.specs.Prelude.{◌≡◌, Some};
-ghost use Rattle.job.specs.Replies.{prints, reply_text};
+ghost use Rattle.std.specs.Prelude.{◌≡◌, true, Some, OnOk, IfErr};
+ghost use Rattle.std.specs.Io.KnownBytes.{Appends};
+ghost use Rattle.job.specs.Replies.{has_line, reply_text};
 
 use super::answer::Answer;
 use super::fault::Fault;
 use kinds::FaultCode;
-use std::fmt;
+use std::{fmt, io};
 
 // A record's answer, and where the record begins. No `==`: nothing compares replies.
 #[derive(Clone, Copy, Debug)]
@@ -16,10 +17,21 @@ pub struct Reply {
 
 impl Reply {
     // Whether it has a line.
-    pub(crate) fn prints(&self) -> bool
-        ensures { result ≡ prints self.now }
+    fn has_line(&self) -> bool
+        ensures { result ≡ has_line self.now }
     {
         !matches!(self.answer, Ok(Answer::Done))
+    }
+
+    // Prints its line, if it has one.
+    pub fn print<W: io::Write>(&self, out: &mut W) -> io::Result<()>
+        ensures text { OnOk result (Appends (W.contents out.old) (W.contents out.new) (reply_text self.now)) }
+        ensures failed { IfErr result (λ _. has_line self.now ≡ true) }
+    {
+        if self.has_line() {
+            write!(out, "{self}")?;
+        }
+        Ok(())
     }
 }
 

@@ -2,17 +2,17 @@
 ghost use Rattle.std.specs.Prelude.{◌≡◌};
 ghost use Rattle.job.specs.Jobs.{lent};
 ghost use Rattle.job.specs.Runs.{RunsThrough, Runs};
-ghost use Rattle.job.specs.Facts.{FindsTheLowest, OneAnswer};
+ghost use Rattle.job.specs.Facts.{LooksUpLowest, OneAnswer};
 
 use super::fault::Fault;
-use super::machine::Job;
+use super::machine::Machine;
 use super::reply::Reply;
 use kinds::Line;
 use records::{Reader, Refusal};
 use std::io;
 
-// The longest job.
-const MOST_BYTES: usize = 65536;
+// The most bytes of a job.
+pub const LONGEST_JOB: usize = 65536;
 
 // Carries out all records of a job, and prints their replies.
 fn run_through<W: io::Write>(
@@ -25,19 +25,17 @@ fn run_through<W: io::Write>(
 ) -> io::Result<()>
     ensures { RunsThrough (lent routed.old bridge.old area.old tally.old) (lent routed.new bridge.new area.new tally.new) job.now (W.contents out.old) (W.contents out.new) result }
 {
-    let mut machine = Job::Unopened;
+    let mut machine = Machine::Unopened;
     for read in Reader::new(job) {
         let (next, reply) = machine.reply(routed, bridge, area, tally, read);
         machine = next;
-        if reply.prints() {
-            write!(out, "{reply}")?;
-        }
+        reply.print(out)?;
     }
     Ok(())
 }
 
 // Runs a job on lent memory: a line is printed for each record that chooses, looks up, or is refused.
-#[tactic(auto, using(crate::proofs::Facts::one_answer, crate::proofs::Facts::finds_the_lowest))]
+#[tactic(auto, using(crate::proofs::Facts::one_answer, crate::proofs::Facts::looks_up_lowest))]
 pub fn run<W: io::Write>(
     job: &[u8],
     routed: &mut [Line<routed::Row>],
@@ -47,15 +45,15 @@ pub fn run<W: io::Write>(
     out: &mut W,
 ) -> io::Result<()>
     ensures run { Runs (lent routed.old bridge.old area.old tally.old) (lent routed.new bridge.new area.new tally.new) job.now (W.contents out.old) (W.contents out.new) result }
-    ensures lowest { FindsTheLowest }
+    ensures lowest { LooksUpLowest }
     ensures one_answer { OneAnswer }
 {
-    if job.len() > MOST_BYTES {
+    if job.len() > LONGEST_JOB {
         let reply = Reply {
             offset: 0,
             answer: Err(Fault::Record(Refusal::CutOff)),
         };
-        return write!(out, "{reply}");
+        return reply.print(out);
     }
     run_through(job, routed, bridge, area, tally, out)
 }

@@ -1,7 +1,7 @@
 // Memory that is altered between two records: a record is answered by what it finds.
 use super::jobs::{BRIDGE, LAYING, LOOK_UP, OPENING, ROUTED, putting};
 use bridge::Row;
-use job::{Answer, Fault, Job};
+use job::{Answer, Fault, Machine};
 use kinds::Line;
 use records::{Reader, Record};
 use std::alloc::AllocError;
@@ -41,7 +41,7 @@ fn altered_memory(rt: HostRuntime) -> Result<(), AllocError> {
     let area = &mut [0u32; 3];
     let tally = &mut [0u32; 4];
     let rule = putting(rt.alloc())?;
-    let (job, _) = Job::Unopened.answer(none, bridge, area, tally, first(&OPENING));
+    let (job, _) = Machine::Unopened.answer(none, bridge, area, tally, first(&OPENING));
     let (job, _) = job.answer(none, bridge, area, tally, first(&rule));
     let (job, _) = job.answer(none, bridge, area, tally, first(&LAYING));
     let (job, answer) = job.answer(none, bridge, area, tally, first(&LOOK_UP));

@@ -51,29 +51,29 @@ module _ (body : List ℕ) where
   abbrev pub number_at : ℕ → ℕ
   number_at at = little_endian body at 2
 
-  -- what a body of so many bytes asks for
-  abbrev pub long : ℕ → Request → Result Request Refusal
-  long bytes request = if length body == bytes then Ok request else Err BodyLength
+  -- what a body asks for, if it has so many bytes
+  abbrev pub of_length : ℕ → Request → Result Request Refusal
+  of_length bytes request = if length body == bytes then Ok request else Err BodyLength
 
   -- the first byte is the kind of a book
   abbrev pub open_body : Result Request Refusal
   open_body =
       if length body == 0 then Err BodyLength
-      else if slice_index body 0 == 1 then long 3 (OpenRouted (number_at 1))
-      else if slice_index body 0 == 2 then long 3 (OpenBridge (number_at 1))
+      else if slice_index body 0 == 1 then of_length 3 (OpenRouted (number_at 1))
+      else if slice_index body 0 == 2 then of_length 3 (OpenBridge (number_at 1))
       else Err UnknownKind
 
   abbrev pub put_routed_body : Result Request Refusal
-  put_routed_body = long 22 (Put (number_at 0) (Routed routed_row))
+  put_routed_body = of_length 22 (Put (number_at 0) (Routed routed_row))
 
   abbrev pub put_bridge_body : Result Request Refusal
-  put_bridge_body = long 30 (Put (number_at 0) (Bridge bridge_row))
+  put_bridge_body = of_length 30 (Put (number_at 0) (Bridge bridge_row))
 
   abbrev pub strike_body : Result Request Refusal
-  strike_body = long 2 (Strike (number_at 0))
+  strike_body = of_length 2 (Strike (number_at 0))
 
   abbrev pub choose_body : Result Request Refusal
-  choose_body = long 6 (Choose (judge_named (slice_index body 0)) (record { most_bits = slice_index body 1; most_tries = little_endian body 2 4 }))
+  choose_body = of_length 6 (Choose (judge_named (slice_index body 0)) (record { most_bits = slice_index body 1; most_tries = little_endian body 2 4 }))
 
 -- a packet or a frame of at most 2,048 bytes
 abbrev pub look_up_body : Bor (List ℕ) → Result Request Refusal

@@ -11,10 +11,10 @@ use bridge::Octets;
 use choice::Limits;
 
 // The longest packet or frame that a record may hold.
-const MOST_BYTES: usize = 2048;
+const LONGEST_PACKET: usize = 2048;
 
 // The number of two bytes.
-fn word(body: &[u8], at: usize) -> u16
+fn number(body: &[u8], at: usize) -> u16
     requires { at + 2 ≤ length body.now }
     ensures { result ≡ little_endian body.now at 2 }
 {
@@ -63,16 +63,16 @@ pub(crate) fn put_routed(body: &[u8]) -> Result<Request<'_>, Refusal>
         return Err(Refusal::BodyLength);
     }
     Ok(Request::Put {
-        line: usize::from(word(body, 0)),
+        line: usize::from(number(body, 0)),
         row: Row::Routed(routed::Row {
             source: address(body, 2),
             source_length: body[10],
             destination: address(body, 6),
             destination_length: body[11],
-            source_low: word(body, 12),
-            source_high: word(body, 14),
-            destination_low: word(body, 16),
-            destination_high: word(body, 18),
+            source_low: number(body, 12),
+            source_high: number(body, 14),
+            destination_low: number(body, 16),
+            destination_high: number(body, 18),
             protocol: body[20],
             mask: body[21],
         }),
@@ -86,7 +86,7 @@ pub(crate) fn put_bridge(body: &[u8]) -> Result<Request<'_>, Refusal>
         return Err(Refusal::BodyLength);
     }
     Ok(Request::Put {
-        line: usize::from(word(body, 0)),
+        line: usize::from(number(body, 0)),
         row: Row::Bridge(bridge::Row {
             value: octets(body, 2),
             mask: octets(body, 16),
@@ -134,7 +134,7 @@ pub(crate) fn choose(body: &[u8]) -> Result<Request<'_>, Refusal>
 pub(crate) fn look_up(body: &[u8]) -> Result<Request<'_>, Refusal>
     ensures { result ≡ look_up_body body.entry }
 {
-    if body.len() > MOST_BYTES {
+    if body.len() > LONGEST_PACKET {
         return Err(Refusal::BodyLength);
     }
     Ok(Request::LookUp { packet: body })

@@ -1,6 +1,6 @@
-use Rattle.std.proofs.Common.{ap, sym, ◌∙◌}
+use Rattle.std.proofs.Common.{ap, ◌∙◌}
 use Rattle.job.specs.Jobs.{lent}
-use Rattle.job.proofs.Runs.{nothing_printed, none_printed, one_printed, not_printed, all_printed}
+use Rattle.job.proofs.Runs.{nothing_printed, one_printed, not_printed, all_printed}
 use Rattle.job.proofs.running.run_through.Goals as goal
 
 pub loop-read-init : goal.loop-read-init
@@ -10,27 +10,20 @@ loop-read-init g c =
     (job, nothing_printed (lent c.args.routed.now c.args.bridge.now c.args.area.now c.args.tally.now) c.args.job.now (g.W.Write.contents c.args.out.now) c.into_iter-read-iterator.result.at at_first)
 
 pub loop-read-preserved : goal.loop-read-preserved
-loop-read-preserved g c =
-    (c.in-Some.ensures.steps.0 ∙ c.loop-read.invariant.0,
-    none_printed (lent c.args.routed.now c.args.bridge.now c.args.area.now c.args.tally.now) c.args.job.now (g.W.Write.contents c.args.out.now) (g.W.Write.contents c.loop-read.out)
-    c.loop-read.machine c.reply-next.result.0 (lent c.loop-read.routed c.loop-read.bridge c.loop-read.area c.loop-read.tally) (lent c.reply-next.new.routed c.reply-next.new.bridge c.reply-next.new.area c.reply-next.new.tally)
-    c.loop-read.read-iterator.at c.next.new.self.at c.in-Some.read c.reply-next.result.1 c.loop-read.invariant.1 c.loop-read.read-iterator.job.now (c.loop-read.invariant.0, c.in-Some.ensures.steps.1) c.reply-next.ensures
-    (sym c.prints.ensures ∙ c.if-prints.false))
+loop-read-preserved g c = (
+  c.in-Some.ensures.steps.0 ∙ c.loop-read.invariant.0,
+  one_printed (lent c.args.routed.now c.args.bridge.now c.args.area.now c.args.tally.now) c.args.job.now (g.W.Write.contents c.args.out.now) (g.W.Write.contents c.loop-read.out)
+      c.loop-read.machine c.reply-next.result.0 (lent c.loop-read.routed c.loop-read.bridge c.loop-read.area c.loop-read.tally) (lent c.reply-next.new.routed c.reply-next.new.bridge c.reply-next.new.area c.reply-next.new.tally)
+      c.loop-read.read-iterator.at c.next.new.self.at c.in-Some.read c.reply-next.result.1 c.loop-read.invariant.1 c.loop-read.read-iterator.job.now (c.loop-read.invariant.0, c.in-Some.ensures.steps.1) c.reply-next.ensures
+      (g.W.Write.contents c.print.new.out) c.in_ok-print.ensures.text,
+)
 
-pub loop-read-preserved-in-Continue-1 : goal.loop-read-preserved-in-Continue-1
-loop-read-preserved-in-Continue-1 g c =
-    (c.in-Some.ensures.steps.0 ∙ c.loop-read.invariant.0,
-    one_printed (lent c.args.routed.now c.args.bridge.now c.args.area.now c.args.tally.now) c.args.job.now (g.W.Write.contents c.args.out.now) (g.W.Write.contents c.loop-read.out)
-    c.loop-read.machine c.reply-next.result.0 (lent c.loop-read.routed c.loop-read.bridge c.loop-read.area c.loop-read.tally) (lent c.reply-next.new.routed c.reply-next.new.bridge c.reply-next.new.area c.reply-next.new.tally)
-    c.loop-read.read-iterator.at c.next.new.self.at c.in-Some.read c.reply-next.result.1 c.loop-read.invariant.1 c.loop-read.read-iterator.job.now (c.loop-read.invariant.0, c.in-Some.ensures.steps.1) c.reply-next.ensures
-    (g.W.Write.contents c.write.new.self) c.in_ok-write.ensures.bytes)
-
-pub returns-in_err-write : goal.returns-in_err-write
-returns-in_err-write g c =
+pub returns-in_err-print : goal.returns-in_err-print
+returns-in_err-print g c =
     not_printed (lent c.args.routed.now c.args.bridge.now c.args.area.now c.args.tally.now) c.args.job.now (g.W.Write.contents c.args.out.now) (g.W.Write.contents c.loop-read.out)
     c.loop-read.machine c.reply-next.result.0 (lent c.loop-read.routed c.loop-read.bridge c.loop-read.area c.loop-read.tally) (lent c.reply-next.new.routed c.reply-next.new.bridge c.reply-next.new.area c.reply-next.new.tally)
     c.loop-read.read-iterator.at c.next.new.self.at c.in-Some.read c.reply-next.result.1 c.loop-read.invariant.1 c.loop-read.read-iterator.job.now (c.loop-read.invariant.0, c.in-Some.ensures.steps.1) c.reply-next.ensures
-    (g.W.Write.contents c.write.new.self) c.from_residual.result c.from_residual.ensures.0 (sym c.prints.ensures ∙ c.if-prints.true)
+    (g.W.Write.contents c.print.new.out) c.from_residual.result c.from_residual.ensures.0 c.in_err-print.ensures.failed
 
 pub returns : goal.returns
 returns g c =
