@@ -1,4 +1,4 @@
-// A book of a job: open, or its table is laid.
+// A book of a job, and what a request does to it. Written once for every kind.
 ghost use Rattle.std.specs.Prelude.{◌≡◌, take, drop};
 ghost use Rattle.kinds.specs.Checks.{◌and_then◌};
 ghost use Rattle.table.specs.Calls.{memory, looks_up};
@@ -6,7 +6,6 @@ ghost use Rattle.job.specs.Books.{lines_of, asking, put_of, found_told, IsOpened
 ghost use Rattle.history.specs.Turns.{priced};
 ghost use Rattle.history.specs.declared.turn.Call.TheVariants as call;
 ghost use Rattle.records.specs.Judges.{named_cost};
-ghost use Rattle.records.specs.declared.request.Request.TheVariants as request_of;
 
 use super::answer::Answer;
 use super::fault::Fault;
@@ -23,6 +22,7 @@ const TOO_MUCH: Limits = Limits {
     most_tries: 0,
 };
 
+// The states that a book of the machine has; measuring it and laying it are one step here.
 #[derive(Drop)]
 pub enum Filter<K> {
     Open(OpenBook<K>),
@@ -60,7 +60,7 @@ where
         tally: &mut [u32],
         line: usize,
     ) -> Result<Answer, Fault>
-        ensures { Takes K.meaning (memory lines.old area.old tally.old) (memory lines.new area.new tally.new) K.reading self.now (request_of.Strike line) self.now result }
+        ensures { Acts K.meaning (memory lines.old area.old tally.old) (memory lines.new area.new tally.new) self.now (call.Strike line) self.now result }
     {
         match self {
             Filter::Open(book) => book.strike(lines, line)?,

@@ -1,4 +1,4 @@
-// The machine of a job: what is open, and what a record may ask of it.
+// The machine of a job: it matches what is open with what a record asks, and what matches nothing is out of order.
 ghost use Rattle.std.specs.Prelude.{◌≡◌};
 ghost use Rattle.job.specs.Jobs.{lent, Steps, AnswersRecord, Replies};
 
@@ -11,6 +11,7 @@ use kinds::Line;
 use records::{CutOff, Record, Refusal, Request};
 use routed::Routed;
 
+// What is open as a job goes on.
 #[derive(Drop)]
 pub enum Machine {
     Unopened,
@@ -31,18 +32,20 @@ impl Machine {
         ensures { Steps (lent routed.old bridge.old area.old tally.old) (lent routed.new bridge.new area.new tally.new) self request.entry result.0 result.1 }
     {
         match (self, request) {
-            (Machine::Unopened, Request::OpenRouted { lines }) => match Filter::open(
-                routed, lines,
-            ) {
-                Ok(filter) => (Machine::Routed(filter), Ok(Answer::Done)),
-                Err(fault) => (Machine::Unopened, Err(Fault::Table(fault))),
-            },
-            (Machine::Unopened, Request::OpenBridge { lines }) => match Filter::open(
-                bridge, lines,
-            ) {
-                Ok(filter) => (Machine::Bridge(filter), Ok(Answer::Done)),
-                Err(fault) => (Machine::Unopened, Err(Fault::Table(fault))),
-            },
+            (Machine::Unopened, Request::OpenRouted { lines: count }) => {
+                let opened = Filter::open(routed, count);
+                match opened {
+                    Ok(filter) => (Machine::Routed(filter), Ok(Answer::Done)),
+                    Err(fault) => (Machine::Unopened, Err(Fault::Table(fault))),
+                }
+            }
+            (Machine::Unopened, Request::OpenBridge { lines: count }) => {
+                let opened = Filter::open(bridge, count);
+                match opened {
+                    Ok(filter) => (Machine::Bridge(filter), Ok(Answer::Done)),
+                    Err(fault) => (Machine::Unopened, Err(Fault::Table(fault))),
+                }
+            }
             (Machine::Routed(filter), request) => {
                 let (filter, answer) = filter.serve(routed, area, tally, request);
                 (Machine::Routed(filter), answer)
