@@ -1,8 +1,9 @@
 -- A whole job, for every string of bytes.
---     HoldsBook, Holds   what lent memory holds of a plain book, or of a plain job, against what was found there
---     Ran                the job was read in order, and each reply is the plain job's
---     RunsThrough, TooLong   what a run of it printed
---     Runs                   a run of any job
+--     lengths_of              how much memory is lent
+--     HoldsBook, Holds        what lent memory holds of a plain book, or of a plain job, against what was found there (HoldsRules)
+--     Ran                     the job was read in order, and each reply is the plain job's
+--     RunsThrough, TooLong    what a run of a job printed, and how it ended (EndsInALine); the same of one that is too long
+--     Runs                    a run of any job
 -- Assumes nothing.
 use Rattle.std.specs.Prelude.{◌≡◌, ℕ, ◌⊎◌, ◌<◌, ◌≤◌, true, List, [], ◌∷◌, ◌++◌, length, take, drop, Err, Option, Result, IfOk, IfErr}
 use Rattle.std.specs.Io.KnownBytes.{Appends}
