@@ -1,10 +1,10 @@
 // A history with judges of two sorts, refused calls, and tallies of different lengths.
-use super::either::Either;
 use super::tables::{TWO_BITS, book, told};
 use bridge::{Bridge, Header, Rule};
 use choice::{Limits, Outcome};
 use history::{Answer, Asked, Call, Turn, run};
 use kinds::FaultCode;
+use records::NamedJudge;
 use std::test::Fail;
 
 // Answers as the test compares them.
@@ -36,7 +36,7 @@ fn as_told(answer: Answer) -> Told {
 }
 
 // A turn that is lent four numbers of the tally.
-fn turn(call: Call<Rule, Header, Either>) -> Turn<Rule, Header, Either> {
+fn turn(call: Call<Rule, Header, NamedJudge>) -> Turn<Rule, Header, NamedJudge> {
     Turn {
         call,
         tally: 4,
@@ -44,13 +44,13 @@ fn turn(call: Call<Rule, Header, Either>) -> Turn<Rule, Header, Either> {
     }
 }
 
-fn look_up(first: u8) -> Turn<Rule, Header, Either> {
+fn look_up(first: u8) -> Turn<Rule, Header, NamedJudge> {
     turn(Call::LookUp {
         header: seven_lines::header(first),
     })
 }
 
-fn choose(judge: Either, most_bits: usize, tally: usize) -> Turn<Rule, Header, Either> {
+fn choose(judge: NamedJudge, most_bits: usize, tally: usize) -> Turn<Rule, Header, NamedJudge> {
     let limits = Limits {
         most_bits,
         most_tries: 1000,
@@ -82,11 +82,11 @@ fn is_carried_out(rt: HostRuntime) -> Result<(), Fail> {
             answer: Some(Answer::Done),
         },
         turn(Call::Put { line: 4, rule }),
-        choose(Either::BySquares, 2, 100),
+        choose(NamedJudge::Squares, 2, 100),
         look_up(0xe0),
-        choose(Either::ByLargest, 13, 4),
-        choose(Either::ByLargest, 2, 3),
-        choose(Either::ByLargest, 1, 2),
+        choose(NamedJudge::Largest, 13, 4),
+        choose(NamedJudge::Largest, 2, 3),
+        choose(NamedJudge::Largest, 1, 2),
     ];
     let expected = [
         Told::Found(Some(4), 2),
@@ -103,7 +103,7 @@ fn is_carried_out(rt: HostRuntime) -> Result<(), Fail> {
         Told::Chosen(0, 0, 111, Outcome::Settled),
     ];
     let asked = Asked {
-        judge: Either::ByLargest,
+        judge: NamedJudge::Largest,
         limits: TWO_BITS,
     };
     let book = book(&mut lines).map_err(|_| "no book")?;

@@ -1,7 +1,6 @@
 // Examples of books, tables and histories, run: at their limits, with spoilt areas, with judges of two sorts in one history, and for packets.
 #![tactic(auto)]
 
-mod either;
 #[cfg(test)]
 mod history_tests;
 #[cfg(test)]
