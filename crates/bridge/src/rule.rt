@@ -12,6 +12,21 @@ pub struct Row {
     pub mask: Octets,
 }
 
+// No bit is set.
+const NO_BITS: Octets = Octets {
+    first: 0,
+    middle: 0,
+    last: 0,
+};
+
+impl Row {
+    // The numbers of the rule that matches every header.
+    pub const ALL: Row = Row {
+        value: NO_BITS,
+        mask: NO_BITS,
+    };
+}
+
 // A value under a mask; no value bit lies outside the mask.
 #[derive(Clone, Copy, Debug, PartialEq, Eq)]
 pub struct Rule {

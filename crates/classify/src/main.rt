@@ -2,7 +2,6 @@
 #![tactic(auto)]
 
 use anyhow::{Context, Result};
-use bridge::Octets;
 use job::LONGEST_JOB;
 use kinds::Line;
 use std::alloc::{AllocError, Global};
@@ -14,13 +13,6 @@ const LINES: usize = 1024;
 const AREA: usize = 8192;
 
 const TALLY: usize = 4096;
-
-// No byte is set.
-const NOTHING: Octets = Octets {
-    first: 0,
-    middle: 0,
-    last: 0,
-};
 
 // The bytes of the job, or one more than it may have, by which it is seen to be too long.
 fn read_job(rt: &(impl Input + Alloc<A = Global>)) -> io::Result<Vec<u8>> {
@@ -40,11 +32,7 @@ fn main(rt: HostRuntime) -> Result<()> {
     let job = read_job(&rt).context("reading the job")?;
     let no_memory = "there is not enough memory";
     let mut routed = lines(rt.alloc(), routed::Row::ALL).context(no_memory)?;
-    let row = bridge::Row {
-        value: NOTHING,
-        mask: NOTHING,
-    };
-    let mut bridge = lines(rt.alloc(), row).context(no_memory)?;
+    let mut bridge = lines(rt.alloc(), bridge::Row::ALL).context(no_memory)?;
     let mut area = vec![in rt.alloc(); 0u32; AREA].context(no_memory)?;
     let mut tally = vec![in rt.alloc(); 0u32; TALLY].context(no_memory)?;
     let mut out = BufWriter::new(rt.alloc(), io::writer(&rt)).context(no_memory)?;

@@ -17,14 +17,17 @@ module _ {Row A F : Type 0} (tell : Refusal → F) (Does : A → Type 0) (found 
     pub is : r ≡ Err (tell refusal)
     pub kept : Untouched refusal found left
 
+  err_is : {one other : F} → one ≡ other → ◌≡◌ {A = Result A F} (Err one) (Err other)
+  err_is e = cc
+
+  pub was_refused : (v : Result (Unit {0}) Refusal) (fault : F) → Answers tell Does found left v (Err fault) → WasRefused v (Err fault)
+  was_refused (Ok _) fault a = absurd a
+  was_refused (Err refusal) fault a = record { refusal = refusal; failed = refl; is = err_is a.0; kept = a.1 }
+
   pub cases : (v : Result (Unit {0}) Refusal) (r : Result A F) → Answers tell Does found left v r → Did v r ⊎ WasRefused v r
   cases (Ok _) (Ok x) a = inl (record { answer = x; passed = refl; is = refl; does = a })
-  cases (Ok _) (Err fault) a = absurd a
+  cases v (Err fault) a = inr (was_refused v fault a)
   cases (Err refusal) (Ok x) a = absurd a
-  cases (Err refusal) (Err fault) a = inr (record { refusal = refusal; failed = refl; is = err_is a.0; kept = a.1 })
-    where
-      err_is : {X G : Type 0} {one other : G} → one ≡ other → ◌≡◌ {A = Result X G} (Err one) (Err other)
-      err_is e = cc
 
   -- a call whose checks all pass isn't refused
   pub not_refused : (v : Result (Unit {0}) Refusal) (fault : F) → v ≡ Ok tt → Answers tell Does found left v (Err fault) → ⊥

@@ -10,13 +10,13 @@ use Rattle.choice.specs.declared.choice.Choice.{Choice}
 use Rattle.table.specs.Refusals.{at, began}
 use Rattle.table.specs.Checks.{verdict, lines_checks, choice_checks}
 use Rattle.table.specs.Lines.{Holds, IsEmptied, Replaced}
-use Rattle.table.specs.Calls.{Memory, zeros, tally_left, Untouched, Answers, Relaid, Anew, Puts, Strikes, ChoosesAnew, looks_up, table_put_checks, table_strike_checks}
+use Rattle.table.specs.Calls.{Memory, zeros, tally_left, Answers, Relaid, Anew, Puts, Strikes, ChoosesAnew, looks_up, table_put_checks, table_strike_checks}
 use Rattle.table.specs.declared.refusal.Refusal.{Refusal}
 use Rattle.table.specs.declared.refusal.Fault.{Fault as TableFault}
 use Rattle.table.specs.declared.shape.Shape.{Shape}
 use Rattle.table.specs.declared.open.OpenBook.{OpenBook}
 use Rattle.table.specs.declared.laid.LaidTable.{LaidTable}
-use Rattle.table.proofs.Calls.{verdict_behind}
+use Rattle.table.proofs.Calls.{verdict_behind, err_one}
 use Rattle.table.proofs.Lines.{emptied_none}
 use Rattle.history.specs.Turns.{AnyCall, line_of, of_change, of_choice, of_look_up}
 use Rattle.history.specs.Plain.{Plain, Says as TableSays}
@@ -26,7 +26,7 @@ use Rattle.history.specs.Runs.{start_of, TableMade}
 use Rattle.history.specs.declared.turn.Asked.{Asked}
 use Rattle.history.specs.declared.turn.Call.TheVariants.{Put, Strike, Choose, LookUp}
 use Rattle.history.specs.declared.turn.Answer.{Answer as TableAnswer}
-use Rattle.history.proofs.Answers.{did}
+use Rattle.history.proofs.Answers.{did, was_refused}
 use Rattle.history.proofs.Standing.{Stands, replaced_rules, replaced_length}
 use Rattle.history.proofs.Facts.{made_is}
 use Rattle.history.proofs.Steps.{step_kept}
@@ -62,18 +62,8 @@ module _ (first : List ℕ) where
       by_began true e = zeroed tally after is e
       by_began false e = still tally after is e
 
--- a call that was refused left all as it was
+-- what a call leaves of the tally
 module _ {Row A F : Type 0} (tell : Refusal → F) (Does : A → Type 0) (found left : Memory Row) where
-  pub record Refused (v : Result (Unit {0}) Refusal) (fault : F) : Type 0 where
-    pub refusal : Refusal
-    pub failed : v ≡ Err refusal
-    pub is : fault ≡ tell refusal
-    pub kept : Untouched refusal found left
-
-  pub was_refused : (v : Result (Unit {0}) Refusal) (fault : F) → Answers tell Does found left v (Err fault) → Refused v fault
-  was_refused (Ok _) fault a = absurd a
-  was_refused (Err refusal) fault a = record { refusal = refusal; failed = refl; is = a.0; kept = a.1 }
-
   pub tally_after : (first : List ℕ) (zero : (x : A) → Does x → left.tally ≡ zeros found.tally) → TallyIs first found.tally → (v : Result (Unit {0}) Refusal) (r : Result A F) → Answers tell Does found left v r → TallyIs first left.tally
   tally_after first zero t (Ok _) (Ok x) a = zeroed first found.tally left.tally t (zero x a)
   tally_after first zero t (Ok _) (Err fault) a = absurd a
@@ -142,7 +132,7 @@ module _ {Header Rule Row K : Type 0} (k : Meaning Header Rule Row) (law : Lawfu
       changed (Ok (Found _ _)) d = absurd d
       changed (Err (Table fault)) d =
           let was = was_refused (at line) (λ (_ : Unit {0}). Replaced line IsNew m.lines left.lines) (only_lines m) (only_lines left) _ fault d in
-          unchanged call was.refusal after fault (was.is ∙ ap (λ n. at n was.refusal) (sym here)) (sym (book_verdict call) ∙ was.failed) same was.kept.lines aside.area (still first.tally m.tally left.tally t aside.tally)
+          unchanged call was.refusal after fault (err_one was.is ∙ ap (λ n. at n was.refusal) (sym here)) (sym (book_verdict call) ∙ was.failed) same was.kept.lines aside.area (still first.tally m.tally left.tally t aside.tally)
       changed (Err (fault.Record _)) d = absurd d
       changed (Err fault.OutOfOrder) d = absurd d
       changed (Err (fault.Routed _)) d = absurd d
@@ -172,7 +162,7 @@ module _ {Header Rule Row K : Type 0} (k : Meaning Header Rule Row) (law : Lawfu
           }
       made (Open after) (Err (Table fault)) d =
           let was = was_refused (at 0) (λ (x : Shape × Choice). TableMade k book.lines asked m left x.0 x.1) m left _ fault d.1 in
-          unchanged (Choose asked) was.refusal (Open after) fault was.is (sym run_verdict ∙ was.failed) (ap Open d.0) was.kept.lines was.kept.area (refused_tally first.tally was.refusal m.tally left.tally t was.kept.tally)
+          unchanged (Choose asked) was.refusal (Open after) fault (err_one was.is) (sym run_verdict ∙ was.failed) (ap Open d.0) was.kept.lines was.kept.area (refused_tally first.tally was.refusal m.tally left.tally t was.kept.tally)
       made (Laid table) (Ok Done) d = absurd d
       made (Laid table) (Ok (Found _ _)) d = absurd d
       made (Laid table) (Err _) d = absurd d

@@ -14,10 +14,10 @@ use Rattle.history.specs.Turns.{AnyCall, line_of}
 use Rattle.history.specs.Plain.{Plain, Says as TableSays}
 use Rattle.history.specs.declared.turn.Call.TheVariants.{LookUp as FindLine}
 use Rattle.history.proofs.Plain.{never, says_one}
-use Rattle.records.specs.Records.{Walks, Alike}
-use Rattle.records.specs.Requests.{SameRequest, request_of}
-use Rattle.records.proofs.Walks.{reads_on, reads_alike}
-use Rattle.records.proofs.Requests.{same_request}
+use Rattle.records.specs.Records.{Walks}
+use Rattle.records.specs.Requests.{request_of}
+use Rattle.records.proofs.Walks.{Alike, reads_on, reads_alike}
+use Rattle.records.proofs.Requests.{SameRequest, same_request}
 use Rattle.job.specs.Books.{look_up_of}
 use Rattle.records.specs.declared.record.Record.{Record}
 use Rattle.records.specs.declared.record.CutOff.{CutOff}

@@ -16,7 +16,7 @@ use Rattle.table.specs.Calls.{Memory, memory}
 use Rattle.table.specs.declared.refusal.Refusal.{Refusal}
 use Rattle.table.specs.declared.refusal.Fault.{Fault as TableFault}
 use Rattle.table.proofs.Calls.{all_pass, err_one, err_ok}
-use Rattle.history.proofs.Answers.{did}
+use Rattle.history.proofs.Answers.{did, was_refused}
 use Rattle.records.specs.declared.refusal.Refusal.{Refusal as RecordRefusal}
 use Rattle.records.specs.declared.request.Request.{Request}
 use Rattle.records.specs.declared.request.Request.TheVariants as request
@@ -33,7 +33,7 @@ use Rattle.job.specs.declared.filter.Filter.{Filter}
 use Rattle.job.specs.declared.filter.Filter.TheVariants.{Open, Laid}
 use Rattle.job.specs.declared.machine.Machine.{Machine}
 use Rattle.job.specs.declared.machine.Machine.TheVariants as job
-use Rattle.job.proofs.Books.{TallyIs, still, StandsAt, carries_kept, was_refused}
+use Rattle.job.proofs.Books.{TallyIs, still, StandsAt, carries_kept}
 
 -- lines that were emptied hold no rule
 pub emptied_rules : {Header Rule Row : Type 0} (k : Meaning Header Rule Row) (lines : List (Line Row)) → rules_of k (map emptied lines) ≡ replicate (length lines) None
@@ -107,7 +107,7 @@ refused_kept : {Row : Type 0} (K : Type 0) (first m left : Memory Row) (count : 
     → (refusal : Refusal) × (verdict (open_checks count (length first.lines)) ≡ Err refusal) × (fault ≡ at 0 refusal) × (left.lines ≡ m.lines)
 refused_kept K first m left count fault lines d =
     let was = was_refused (at 0) (λ (b : Filter K). (is_laid b ≡ false) × (lines_of b ≡ count) × (take count left.lines ≡ map emptied (take count m.lines)) × (drop count left.lines ≡ drop count m.lines)) (memory m.lines [] []) (memory left.lines [] []) (verdict (open_checks count (length m.lines))) fault d in
-    (was.refusal, subst (λ ls. verdict (open_checks count (length ls)) ≡ Err was.refusal) lines was.failed, was.is, was.kept.lines)
+    (was.refusal, subst (λ ls. verdict (open_checks count (length ls)) ≡ Err was.refusal) lines was.failed, err_one was.is, was.kept.lines)
 
 opens_ok : (v : Result (Unit {0}) Refusal) (m : Lengths) (book : PlainJob) → v ≡ Ok tt → Opens m v book (Ok Done) book
 opens_ok (Ok _) m book e = (refl, refl)

@@ -1,5 +1,5 @@
 // A small job, and memory for it.
-use bridge::{Octets, Row};
+use bridge::Row;
 use kinds::Line;
 use std::alloc::{AllocError, Global};
 
@@ -12,19 +12,10 @@ pub(crate) const LAYING: [u8; 10] = [6, 0, 4, 0, 0, 2, 232, 3, 0, 0];
 // Looks up a frame of fourteen zeros.
 pub(crate) const LOOK_UP: [u8; 18] = [14, 0, 5, 0, 0, 0, 0, 0, 0, 0, 0, 0, 0, 0, 0, 0, 0, 0];
 
-const NOTHING: Octets = Octets {
-    first: 0,
-    middle: 0,
-    last: 0,
-};
-
 // An empty bridge line.
 pub(crate) const BRIDGE: Line<Row> = Line {
     mark: false,
-    row: Row {
-        value: NOTHING,
-        mask: NOTHING,
-    },
+    row: Row::ALL,
 };
 
 // An empty routed line.

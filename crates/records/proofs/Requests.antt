@@ -1,11 +1,16 @@
 -- What a record asks for depends on what it says alone.
 use Rattle.std.proofs.Common.{◌≡◌, Bool, true, false, length, Ok, Err, Result, if◌then◌else◌, refl}
 use Rattle.std.specs.Prelude.{◌==◌, nat_lt}
-use Rattle.records.specs.Requests.{open_body, put_routed_body, put_bridge_body, strike_body, choose_body, SameRequest, request_of}
+use Rattle.records.specs.Requests.{open_body, put_routed_body, put_bridge_body, strike_body, choose_body, request_of}
 use Rattle.records.specs.declared.record.Record.{Record}
 use Rattle.records.specs.declared.refusal.Refusal.{Refusal}
 use Rattle.records.specs.declared.request.Request.{Request}
 use Rattle.records.specs.declared.request.Request.TheVariants.{OpenRouted, OpenBridge, Put, Strike, Choose, LookUp}
+
+-- two requests that ask the same: only where a packet's bytes lie in memory may differ
+abbrev pub SameRequest : Result Request Refusal → Result Request Refusal → Type 0
+SameRequest (Ok (LookUp packet)) (Ok (LookUp other)) = other.now ≡ packet.now
+SameRequest asked other = other ≡ asked
 
 -- a request asks the same as itself
 same : (asked : Result Request Refusal) → SameRequest asked asked

@@ -2,9 +2,15 @@
 use Rattle.std.proofs.Common.{◌≡◌, ℕ, ◌+◌, ◌<◌, true, ltb, inl, inr, List, [], ◌∷◌, ◌++◌, length, Some, Ok, Err, Result, sym, refl, ap, ◌∙◌, subst, arith}
 use Rattle.std.specs.List.{slice_range}
 use Rattle.std.proofs.lemmas.Bool.{ltb-true, or_cases}
-use Rattle.records.specs.Records.{little_endian, is_cut_off, Is, Reads, Walks, Alike}
+use Rattle.records.specs.Records.{little_endian, is_cut_off, Is, Reads, Walks}
 use Rattle.records.specs.declared.record.Record.{Record}
 use Rattle.records.specs.declared.record.CutOff.{CutOff}
+
+-- two readings that say the same: only where their bytes lie in memory may differ
+abbrev pub Alike : Result Record CutOff → Result Record CutOff → Type 0
+Alike (Ok this) (Ok other) = (other.offset ≡ this.offset) × (other.kind ≡ this.kind) × (other.body.now ≡ this.body.now)
+Alike (Err cut) (Err other) = other.offset ≡ cut.offset
+Alike _ _ = ⊥
 
 module _ (job : List ℕ) where
   -- one record more

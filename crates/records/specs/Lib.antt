@@ -1,4 +1,5 @@
 pub mod Records
+pub mod Readers
 pub mod Requests
 pub mod Refusals
 pub mod Judges

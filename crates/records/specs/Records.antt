@@ -5,7 +5,6 @@
 --     Walks           what a reader gives in order from a place on, up to another: each record begins where the one before it ended
 --     bytes_of        the bytes of the job that a record takes up
 --     PartsTile       laid end to end, the records of a job are the job
---     Alike           two readings that say the same
 -- Assumes nothing.
 use Rattle.std.specs.Prelude.{◌≡◌, ℕ, zero, suc, ◌+◌, ◌*◌, ◌≤◌, ◌<◌, Bool, true, ◌||◌, List, [], ◌∷◌, ◌++◌, length, drop, Some, None, Ok, Err, Option, Result, nat_lt, slice_index, slice_range, flat_map}
 use Rattle.records.specs.declared.record.Record.{Record}
@@ -49,9 +48,3 @@ module _ (job : List ℕ) where
 -- laid end to end they are the job
 abbrev pub PartsTile : Type 0
 PartsTile = (job : List ℕ) (reads : List (Result Record CutOff)) → Walks job 0 reads (length job) → flat_map (bytes_of job) reads ≡ job
-
--- two readings that say the same: only where their bytes lie in memory may differ
-abbrev pub Alike : Result Record CutOff → Result Record CutOff → Type 0
-Alike (Ok this) (Ok other) = (other.offset ≡ this.offset) × (other.kind ≡ this.kind) × (other.body.now ≡ this.body.now)
-Alike (Err cut) (Err other) = other.offset ≡ cut.offset
-Alike _ _ = ⊥

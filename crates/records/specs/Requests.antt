@@ -3,9 +3,8 @@
 --     octets_at, routed_row, bridge_row    what stands in a body
 --     open_body, put_routed_body, put_bridge_body, strike_body, choose_body, look_up_body   what a body of each kind asks for, or why it is refused
 --     request_of                           the same for a record: what it asks for, read off its kind and body
---     SameRequest                          two requests that ask the same
 -- Assumes nothing.
-use Rattle.std.specs.Prelude.{◌≡◌, ℕ, ◌+◌, if◌then◌else◌, List, length, Some, None, Ok, Err, Option, Result, ◌==◌, nat_lt, slice_index}
+use Rattle.std.specs.Prelude.{ℕ, ◌+◌, if◌then◌else◌, List, length, Some, None, Ok, Err, Option, Result, ◌==◌, nat_lt, slice_index}
 use denote.Ref.{Bor}
 use Rattle.kinds.specs.Bytes.{big_endian}
 use Rattle.routed.specs.declared.rule.Row.{Row as RoutedRow}
@@ -88,8 +87,3 @@ request_of this =
     else if this.kind == 5 then look_up_body this.body
     else if this.kind == 6 then open_body this.body.now
     else Err UnknownKind
-
--- two requests that ask the same: only where a packet's bytes lie in memory may differ
-abbrev pub SameRequest : Result Request Refusal → Result Request Refusal → Type 0
-SameRequest (Ok (LookUp packet)) (Ok (LookUp other)) = other.now ≡ packet.now
-SameRequest asked other = other ≡ asked

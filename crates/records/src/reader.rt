@@ -14,11 +14,13 @@ pub struct Reader<'a> {
 }
 
 impl<'a> Reader<'a> {
+    ghost use Rattle.records.specs.Readers.{job_of, place_of};
+
     // A reader of a job's first record.
     #[tactic(auto, using(crate::proofs::Tiles::parts_tile))]
     pub fn new(job: &'a [u8]) -> Reader<'a>
-        ensures job { result.job.now ≡ job.now }
-        ensures at { result.at ≡ 0 }
+        ensures job { job_of result ≡ job.now }
+        ensures at { place_of result ≡ 0 }
         ensures tiles { PartsTile }
     {
         Reader { job, at: 0 }
@@ -27,11 +29,13 @@ impl<'a> Reader<'a> {
 
 // The records in order, without copying them; a record that is cut off is the last.
 impl<'a> Iterator for Reader<'a> {
+    ghost use Rattle.records.specs.Readers.{job_of, place_of};
+
     type Item = Result<Record<'a>, CutOff>;
 
-    ghost next_gives = { λ found item left. (left.job.now ≡ found.job.now) × Reads found.job.now found.at item left.at };
+    ghost next_gives = { λ found item left. (job_of left ≡ job_of found) × Reads (job_of found) (place_of found) item (place_of left) };
 
-    ghost remaining = { λ reader. at_most (length reader.job.now - reader.at) };
+    ghost remaining = { λ reader. at_most (length (job_of reader) - place_of reader) };
 
     fn next(&mut self) -> Option<Result<Record<'a>, CutOff>> {
         let job = self.job;
