@@ -1,5 +1,5 @@
 // A set of bits: its type, what it tells, and the sets that one more bit or an exchange gives.
-ghost use Rattle.std.specs.Prelude.{Some, None, IfSome, ◌≡◌, ℕ, ◌+◌, ◌^◌, ◌<◌, ◌≤◌, true, not, ◌&&◌, ◌||◌, ◌==◌, [], length, if◌then◌else◌, nat_lt, slice_index, slice_index_or};
+ghost use Rattle.std.specs.Prelude.{Some, None, IfSome, ◌≡◌, ℕ, ◌+◌, ◌^◌, ◌<◌, ◌≤◌, true, not, ◌&&◌, ◌||◌, ◌==◌, [], length, take, if◌then◌else◌, nat_lt, slice_index, slice_index_or};
 ghost use Rattle.std.specs.Iterator.{YieldsFirst, item_count};
 ghost use Rattle.bits.specs.Sets.{member, with_bit, without_bit, exchanged};
 ghost use Rattle.bits.specs.Chosen.{IsBits, joins};
@@ -115,6 +115,16 @@ impl Bits {
             10 => self.b10,
             _ => self.b11,
         }
+    }
+
+    // All twelve places, the bits in rising order first. An array, which a loop over many lines reads faster than the set.
+    pub fn places(&self) -> [u16; 12]
+        ensures { take (length self.now) result ≡ self.now }
+    {
+        [
+            self.b0, self.b1, self.b2, self.b3, self.b4, self.b5, self.b6, self.b7, self.b8,
+            self.b9, self.b10, self.b11,
+        ]
     }
 
     // The bits in rising order.

@@ -1,5 +1,8 @@
 pub mod Cells
 pub mod Changes
 pub mod Plans
+pub mod Raising
 pub mod Sizes
-mod Turns
+mod Counts
+mod Parts
+mod Masks

@@ -1,23 +1,32 @@
 -- A plan's lines and their rules, place by place.
-use Rattle.std.proofs.Common.{◌≡◌, ℕ, zero, suc, ◌^◌, ◌≤◌, Bool, false, List, [], ◌∷◌, length, get_or, slice_get, None, sum, ◌∙◌, arith}
+use Rattle.std.proofs.Common.{◌≡◌, ℕ, zero, suc, ◌^◌, ◌≤◌, false, List, [], ◌∷◌, length, get_or, slice_get, None, Option, filter, sum, refl, ap, ◌∙◌, arith}
+use Rattle.std.specs.List.{range_with_len}
 use Rattle.std.proofs.lemmas.List.{length-map}
 use Rattle.std.specs.Option.{MatchOption}
 use Rattle.kinds.specs.Meaning.{Meaning}
 use Rattle.kinds.specs.Lines.{rule_of, rules_of}
 use Rattle.kinds.specs.declared.line.Line.{Line}
-use Rattle.blocks.specs.Blocks.{admits_line, sizes}
+use Rattle.blocks.specs.Blocks.{admits_line, cells_naming, sizes}
 use Rattle.blocks.specs.Changes.{changed}
 use Rattle.blocks.specs.Plans.{rules_in}
 use Rattle.blocks.specs.declared.plan.Plan.{Plan}
 use Rattle.blocks.proofs.Changes.{length-changed}
 use Rattle.blocks.proofs.Sizes.{entries_bound}
 
-module _ {Header Rule Row : Type 0} (k : Meaning Header Rule Row) (bits : List ℕ) (cell : ℕ) where
-  -- a block names the line at a place if it names the line that is got there, and no line where none is
-  pub named : (lines : List (Line Row)) (i : ℕ) (r : Bool) → MatchOption (slice_get lines i) (r ≡ false) (λ line. r ≡ admits_line k (rule_of k line) bits cell) → r ≡ admits_line k (get_or (rules_of k lines) i None) bits cell
-  named [] i r told = told
-  named (first ∷ lines) zero r told = told
-  named (first ∷ lines) (suc i) r told = named lines i r told
+-- the rule at a place is that of the line that is got there, and none where no line is
+module _ {Header Rule Row : Type 0} (k : Meaning Header Rule Row) where
+  pub ruled : (lines : List (Line Row)) (i : ℕ) (r : Option Rule) → MatchOption (slice_get lines i) (r ≡ None) (λ line. r ≡ rule_of k line) → r ≡ get_or (rules_of k lines) i None
+  ruled [] i r told = told
+  ruled (first ∷ lines) zero r told = told
+  ruled (first ∷ lines) (suc i) r told = ruled lines i r told
+
+  none_of : (cells : List ℕ) → [] ≡ filter (λ cell. false) cells
+  none_of [] = refl
+  none_of (cell ∷ cells) = none_of cells
+
+  -- no block names a line without a rule
+  pub none_naming : (rules : List (Option Rule)) (bits : List ℕ) (line : ℕ) → None ≡ get_or rules line None → [] ≡ cells_naming k rules bits line
+  none_naming rules bits line is = none_of (range_with_len 0 (2 ^ length bits)) ∙ ap (λ (o : Option Rule). filter (admits_line k o bits) (range_with_len 0 (2 ^ length bits))) is
 
 -- a plan has as many rules as lines, and so few that all entries of its table together are few
 module _ {Header Rule Row : Type 0} (k : Meaning Header Rule Row) (plan : Plan Row) where

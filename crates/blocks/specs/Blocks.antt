@@ -1,6 +1,7 @@
 -- Blocks: which lines may match in each cell.
 --     admits_line   whether a line is in a cell's block
 --     block         the block of a cell: in rising order, every filled line whose rule admits the cell
+--     cells_naming  the cells whose blocks name a line, in rising order
 --     blocks        the blocks of all cells, in cell order
 --     sizes         their lengths
 --     table_size    the places that a table takes: a start for each cell, one for the end, and the entries
@@ -20,6 +21,9 @@ module _ {Header Rule Row : Type 0} (k : Meaning Header Rule Row) where
   module _ (rules : List (Option Rule)) (bits : List ℕ) where
     abbrev pub block : ℕ → List ℕ
     block cell = filter (λ line. admits_line (slice_index_or rules line None) bits cell) (range_with_len 0 (length rules))
+
+    abbrev pub cells_naming : ℕ → List ℕ
+    cells_naming line = filter (admits_line (slice_index_or rules line None) bits) (range_with_len 0 (2 ^ length bits))
 
     abbrev pub blocks : List (List ℕ)
     blocks = map block (range_with_len 0 (2 ^ length bits))

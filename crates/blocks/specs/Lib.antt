@@ -1,7 +1,11 @@
 pub mod Cells
+pub mod Masks
+pub mod Parts
+pub mod Admitted
 pub mod Blocks
 pub mod Changes
 pub mod Plans
+pub mod Raising
 pub mod Tallies
 pub mod Counts
 pub mod Faults

@@ -1,37 +1,56 @@
-// Counting one block, and adding up sizes.
-ghost use Rattle.std.specs.Prelude.{◌≡◌, ◌^◌, ◌<◌, ◌≤◌, length, take, sum};
-ghost use Rattle.blocks.specs.Blocks.{block, sizes};
+// Counting block sizes, line by line.
+ghost use Rattle.std.specs.Prelude.{◌≡◌, ◌^◌, ◌≤◌, IfSome, length, take, sum};
+ghost use Rattle.blocks.specs.Blocks.{sizes};
 ghost use Rattle.blocks.specs.Plans.{rules_in};
+ghost use Rattle.blocks.specs.Raising.{raised, MayRaise, room_left};
 
+use super::admitted::Admitted;
+use super::clear::clear_from;
 use super::plan::Plan;
 use kinds::Kind;
 
-// How many lines the block of a cell names. There are few lines, so `as u32` loses nothing; the library has no count in 32 bits.
-fn block_size<K: Kind>(plan: &Plan<K::Row>, cell: usize) -> u32
-    ensures { result ≡ length (block K.meaning (rules_in K.meaning plan.now) plan.now.bits.now cell) }
+// Raises the numbers of some cells, as long as there is room for an entry more. Tells how much room is left, or none where it ends before all are raised.
+fn raise(numbers: &mut [u32], cells: Admitted, room: usize) -> Option<usize>
+    requires { MayRaise cells numbers.old }
+    ensures left { result ≡ room_left room (length cells) }
+    ensures raised { IfSome result (λ _. numbers.new ≡ raised cells numbers.old) }
+    ensures len { length numbers.new ≡ length numbers.old }
 {
-    (0..plan.lines.len())
-        .filter(|line| plan.names::<K>(cell, *line))
-        .count() as u32
-}
-
-// Counts the block sizes of a plan into the first numbers of a tally.
-pub(crate) fn count_sizes<K: Kind>(cells: &mut [u32], plan: &Plan<K::Row>)
-    requires { 2 ^ length plan.now.bits.now ≤ length cells.old }
-    ensures counted { take (2 ^ length plan.now.bits.now) cells.new ≡ sizes K.meaning (rules_in K.meaning plan.now) plan.now.bits.now }
-    ensures len { length cells.new ≡ length cells.old }
-{
-    let count = plan.bits.cells();
-    for (cell, size) in cells[..count].iter_mut().enumerate() {
-        *size = block_size::<K>(plan, cell);
+    let mut left = room;
+    for cell in cells {
+        left = left.checked_sub(1)?;
+        numbers[cell] += 1;
     }
+    Some(left)
 }
 
-// The sum of some sizes (`as`, since there is no `From<u32>` for `usize`), of which there are as many as cells at most.
-pub(crate) fn total(sizes: &[u32]) -> usize
-    requires { length sizes.now ≤ 4096 }
-    ensures answer { result ≡ sum sizes.now }
-    ensures bound { result < 2 ^ 44 }
+// Counts the block sizes of a plan, a number for each cell. Tells for how many more entries there is room, or none where there is too little: it stops there, and of the numbers nothing is known then.
+fn count_into<K: Kind>(numbers: &mut [u32], plan: &Plan<K::Row>, room: usize) -> Option<usize>
+    requires all { length numbers.old ≡ 2 ^ length plan.now.bits.now }
+    requires few { length numbers.old ≤ 4096 }
+    ensures left { result ≡ room_left room (sum (sizes K.meaning (rules_in K.meaning plan.now) plan.now.bits.now)) }
+    ensures counted { IfSome result (λ _. numbers.new ≡ sizes K.meaning (rules_in K.meaning plan.now) plan.now.bits.now) }
+    ensures len { length numbers.new ≡ length numbers.old }
 {
-    sizes.iter().map(|size| *size as usize).sum()
+    clear_from(numbers, 0);
+    let mut left = room;
+    for line in 0..plan.lines.len() {
+        left = raise(numbers, plan.cells::<K>(line), left)?;
+    }
+    Some(left)
+}
+
+// The same into the first numbers of a tally.
+pub(crate) fn count_sizes<K: Kind>(
+    tally: &mut [u32],
+    plan: &Plan<K::Row>,
+    room: usize,
+) -> Option<usize>
+    requires { 2 ^ length plan.now.bits.now ≤ length tally.old }
+    ensures left { result ≡ room_left room (sum (sizes K.meaning (rules_in K.meaning plan.now) plan.now.bits.now)) }
+    ensures counted { IfSome result (λ _. take (2 ^ length plan.now.bits.now) tally.new ≡ sizes K.meaning (rules_in K.meaning plan.now) plan.now.bits.now) }
+    ensures len { length tally.new ≡ length tally.old }
+{
+    let cells = plan.bits.cells();
+    count_into::<K>(&mut tally[..cells], plan, room)
 }

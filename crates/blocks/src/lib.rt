@@ -1,6 +1,7 @@
 // Cells and blocks of a list of lines, counted into a lent tally. Written once for every kind.
 #![tactic(auto)]
 
+mod admitted;
 mod cell;
 mod change;
 mod clear;
@@ -9,7 +10,8 @@ mod plan;
 mod refusal;
 mod tally;
 
-pub use cell::{admits, cell_of};
+pub use admitted::Admitted;
+pub use cell::cell_of;
 pub use change::Change;
 pub use clear::clear_from;
 pub use plan::Plan;

@@ -1,7 +1,7 @@
 // What a table is made of.
-ghost use Rattle.std.specs.Prelude.{◌≡◌, ◌≤◌, length, None, slice_get, slice_index_or};
+ghost use Rattle.std.specs.Prelude.{◌≡◌, ◌≤◌, length, take, None, slice_get, slice_index_or};
 
-use super::cell::admits;
+use super::admitted::{Admitted, admitted_cells};
 use super::change::Change;
 use bits::Bits;
 use kinds::{Kind, Line};
@@ -12,11 +12,14 @@ pub struct Plan<'a, R> {
     pub lines: &'a [Line<R>],
     pub change: Option<Change<R>>,
     pub bits: &'a Bits,
+    // The chosen bits as an array, which is read faster for each line.
+    pub places: [u16; 12],
     ghost few: { length lines.now ≤ 16384 },
+    ghost told: { take (length bits.now) places ≡ bits.now },
 }
 
 impl<R: Copy> Plan<'_, R> {
-    ghost use Rattle.blocks.specs.Blocks.{admits_line};
+    ghost use Rattle.blocks.specs.Blocks.{cells_naming};
     ghost use Rattle.blocks.specs.Changes.{changed};
     ghost use Rattle.blocks.specs.Plans.{rules_in};
 
@@ -30,11 +33,23 @@ impl<R: Copy> Plan<'_, R> {
         }
     }
 
-    // Whether a cell's block names a line.
-    pub fn names<K: Kind<Row = R>>(&self, cell: usize, line: usize) -> bool
-        ensures { result ≡ admits_line K.meaning (slice_index_or (rules_in K.meaning self.now) line None) self.now.bits.now cell }
+    // The rule of the line at a place, or none where it is empty.
+    fn rule<K: Kind<Row = R>>(&self, place: usize) -> Option<K::Rule>
+        ensures { result ≡ slice_index_or (rules_in K.meaning self.now) place None }
     {
-        self.line(line)
-            .is_some_and(|line| admits::<K>(&line, self.bits, cell))
+        self.line(place).and_then(|line| kinds::rule_of::<K>(&line))
+    }
+
+    // The cells whose blocks name the line at a place, in rising order.
+    pub fn cells<K: Kind<Row = R>>(&self, place: usize) -> Admitted
+        ensures { result ≡ cells_naming K.meaning (rules_in K.meaning self.now) self.now.bits.now place }
+    {
+        match self.rule::<K>(place) {
+            Some(rule) => {
+                let chosen = &self.places[..self.bits.len()];
+                admitted_cells::<K>(&rule, chosen, self.bits.cells())
+            }
+            None => Admitted::none(),
+        }
     }
 }

@@ -1,16 +1,17 @@
 // The tally behind its guard: counters, one for each cell, that are all zero again when the guard ends.
-ghost use Rattle.std.specs.Prelude.{◌≡◌, ◌^◌, ◌<◌, ◌≤◌, true, IfOk, length, take, replicate, is_ok};
+ghost use Rattle.std.specs.Prelude.{◌≡◌, ◌^◌, ◌<◌, ◌≤◌, true, IfOk, Ok, Err, length, take, replicate, is_ok, if◌then◌else◌, nat_lt};
 ghost use Rattle.kinds.specs.Checks.{checked};
 ghost use Rattle.kinds.specs.Lines.{rules_of};
 ghost use Rattle.blocks.specs.Blocks.{sizes, table_size};
 ghost use Rattle.blocks.specs.Changes.{changed};
 ghost use Rattle.blocks.specs.Counts.{table_checks};
 ghost use Rattle.blocks.specs.Plans.{rules_in};
+ghost use Rattle.blocks.specs.declared.refusal.Refusal.TheVariants.{NoRoom};
 ghost use Rattle.blocks.specs.Tallies.{SameCells};
 
 use super::change::Change;
 use super::clear::clear_from;
-use super::count::{count_sizes, total};
+use super::count::count_sizes;
 use super::plan::Plan;
 use super::refusal::{Refusal, ready};
 use bits::Bits;
@@ -19,8 +20,9 @@ use kinds::{Kind, Line};
 
 // It holds the lent slice, and zeroes all of it at its end, on every way out.
 // That it stays the same slice relates two states, which no type can promise: each method says so (`kept`).
+// The numbers are open to other crates: whoever counted may go on to use them, as laying does, and the guard zeroes whatever they hold.
 pub struct Tally<'a> {
-    cells: &'a mut [u32],
+    pub cells: &'a mut [u32],
 }
 
 impl Drop for Tally<'_> {
@@ -56,15 +58,20 @@ impl Tally<'_> {
         }
     }
 
-    // Counts, and tells how many places the table takes.
-    fn table_size<K: Kind>(&mut self, plan: &Plan<K::Row>) -> usize
+    // Counts the block sizes of a plan, as long as their table fits so many places.
+    fn count<K: Kind>(&mut self, plan: &Plan<K::Row>, room: usize) -> Result<(), Refusal>
         requires { 2 ^ length plan.now.bits.now ≤ length self.old.cells.now }
-        ensures answer { result ≡ table_size K.meaning (rules_in K.meaning plan.now) plan.now.bits.now }
-        ensures counted { take (2 ^ length plan.now.bits.now) self.new.cells.now ≡ sizes K.meaning (rules_in K.meaning plan.now) plan.now.bits.now }
+        ensures answer { result ≡ (if nat_lt room (table_size K.meaning (rules_in K.meaning plan.now) plan.now.bits.now) then Err NoRoom else Ok tt) }
+        ensures counted { is_ok result ≡ true → take (2 ^ length plan.now.bits.now) self.new.cells.now ≡ sizes K.meaning (rules_in K.meaning plan.now) plan.now.bits.now }
         ensures kept { SameCells self.old self.new }
     {
-        count_sizes::<K>(self.cells, plan);
-        plan.bits.cells() + 1 + total(self.sizes(plan.bits))
+        let entries = room
+            .checked_sub(plan.bits.cells() + 1)
+            .ok_or(Refusal::NoRoom)?;
+        match count_sizes::<K>(self.cells, plan, entries) {
+            Some(_) => Ok(()),
+            None => Err(Refusal::NoRoom),
+        }
     }
 
     // Whether the table of some lines, which may have one of them changed, fits so many places.
@@ -85,11 +92,9 @@ impl Tally<'_> {
             lines,
             change,
             bits,
+            places: bits.places(),
         };
-        if self.table_size::<K>(&plan) > room {
-            return Err(Refusal::NoRoom);
-        }
-        Ok(())
+        self.count::<K>(&plan, room)
     }
 
     // What a judge says of the block sizes, where the table fits so many places.

@@ -1,5 +1,6 @@
 // The bridge kind as one of the table's kinds.
-ghost use Rattle.bridge.specs.Bridge.{bridge};
+ghost use Rattle.std.specs.Prelude.{◌≡◌, true, Ok, is_some};
+ghost use Rattle.bridge.specs.Bridge.{bridge, rule_in};
 ghost use Rattle.bridge.specs.Law.{bridge_lawful};
 
 use super::frame::Header;
@@ -27,7 +28,10 @@ impl Kind for Bridge {
         header.octets.bit(b)
     }
 
-    fn matches(rule: &Rule, header: &Header) -> bool {
+    fn matches(rule: &Rule, header: &Header) -> bool
+        ensures answer { result ≡ bridge.matches rule.now header.now }
+        ensures all { rule_in Row.ALL ≡ Ok rule.now → result ≡ true }
+    {
         header.octets & rule.mask == rule.value
     }
 
@@ -40,7 +44,10 @@ impl Kind for Bridge {
     }
 
     // The same line in each kind and no body in the trait: no plainer, since the trait would need a bound for this alone.
-    fn rule(row: &Row) -> Option<Rule> {
+    fn rule(row: &Row) -> Option<Rule>
+        ensures answer { result ≡ bridge.holds row.now }
+        ensures all { row.now ≡ Row.ALL → is_some result ≡ true }
+    {
         Rule::try_from(*row).ok()
     }
 

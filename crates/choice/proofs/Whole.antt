@@ -30,12 +30,12 @@ module _ {Header Rule Row : Type 0} (k : Meaning Header Rule Row) (rules : List 
 
   pub way_reached : (limits : Limits) (choice : Choice) → FitsIn k rules room [] → IsChoice k rules room judge limits choice → Way k rules room judge limits.most_bits choice
   way_reached limits choice fits is = record {
-    last = evolved_goes (FitsIn k rules room) (cost_in k rules judge) k.width limits.most_bits (grown_goes (FitsIn k rules room) (cost_in k rules judge) k.width limits.most_bits no_bit is.grows) is.evolves;
+    among = evolved_goes (FitsIn k rules room) (cost_in k rules judge) k.width limits.most_bits (grown_goes (FitsIn k rules room) (cost_in k rules judge) k.width limits.most_bits no_bit is.grows) is.evolves;
     each = λ bits. each_reached (FitsIn k rules room) (cost_in k rules judge) k.width limits.most_bits fits;
   }
 
   pub bits_reached : (limits : Limits) (choice : Choice) → FitsIn k rules room [] → IsChoice k rules room judge limits choice → Reached (FitsIn k rules room) k.width limits.most_bits choice.bits
-  bits_reached limits choice fits is = let way = way_reached limits choice fits is in way.each choice.bits way.last
+  bits_reached limits choice fits is = let way = way_reached limits choice fits is in way.each choice.bits way.among
 
   pub few_tries : (limits : Limits) (choice : Choice) → IsChoice k rules room judge limits choice → choice.tries ≤ limits.most_tries
   few_tries limits choice is = evolved_few (FitsIn k rules room) (cost_in k rules judge) k.width is.evolves

@@ -1,13 +1,13 @@
 -- The choice of bits for the table of some lines in an area, by a judge.
 --     Reached               what is known of every set that a choice reaches
 --     Chosen                growth from no bit, and evolution from the set that it ends at
---     GoesThrough           the sets that growth and evolution go through
+--     GoesThrough           the sets that a best bit that gains, or a first better exchange, leads to from no bit, in any order: all that growth and evolution go through are among them
 --     Unbettered            no exchange of a chosen bit for an unchosen one, whose table fits, costs less
 --     FitsIn                whether the table of a set of bits fits
 --     cost_in               what the judge says of its block sizes
 --     IsChoice              a choice as it is told is the one reached
 --     IsOnlyChoice          and there is no other: neither its bits nor its tries nor how it ended could differ
---     Way                   the chosen bits are the last of the sets that a choice goes through, of each of which that is known
+--     Way                   the chosen bits are one of these sets, and of each of these what is known
 --     UnbetteredIfSettled   a choice that settled can't be bettered by an exchange
 -- Assumes nothing.
 use Rattle.std.specs.Prelude.{◌≡◌, ℕ, ◌<◌, ◌≤◌, true, List, [], length, Option}
@@ -58,7 +58,7 @@ module _ {Header Rule Row : Type 0} (k : Meaning Header Rule Row) (rules : List 
     IsOnlyChoice limits choice = (other : Choice) → IsChoice limits other → other ≡ choice
 
     pub record Way (most : ℕ) (choice : Choice) : Type 0 where
-      pub last : GoesThrough (FitsIn room) (cost_in judge) k.width most choice.bits
+      pub among : GoesThrough (FitsIn room) (cost_in judge) k.width most choice.bits
       pub each : (bits : List ℕ) → GoesThrough (FitsIn room) (cost_in judge) k.width most bits → Reached (FitsIn room) k.width most bits
 
     abbrev pub UnbetteredIfSettled : Choice → Type 0

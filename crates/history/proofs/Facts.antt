@@ -16,7 +16,7 @@ use Rattle.table.proofs.Calls.{all_pass}
 use Rattle.history.specs.Turns.{AnyCall, AnyTurn, of_choice}
 use Rattle.history.specs.Plain.{Plain, Tells}
 use Rattle.history.specs.Histories.{Moment, lending, Start, Step, Lives, Made}
-use Rattle.history.specs.Facts.{plain_of, Certified, ThreeFacts}
+use Rattle.history.specs.Facts.{plain_of, Certified, FactsOfAll}
 use Rattle.history.specs.declared.turn.Asked.{Asked}
 use Rattle.history.specs.declared.turn.Call.TheVariants.{Choose}
 use Rattle.history.specs.declared.turn.Answer.{Answer}
@@ -95,8 +95,8 @@ module _ {Header Rule Row : Type 0} (k : Meaning Header Rule Row) where
       let same : a ≡ asked = cc in
       subst (λ x. Certified k (rules_of k found.lines) (length found.area) x anew) same (chosen_certified found left before after a anew result is call)
 
-  pub three_facts : Lawful k → ThreeFacts k
-  three_facts law start choice turns answers last h =
+  pub facts_of_all : Lawful k → FactsOfAll k
+  facts_of_all law start choice turns answers last h =
       let made = made_is start choice h.first h.made in
       let kept = lives_kept law start.room made.stands h.lived in
       record {

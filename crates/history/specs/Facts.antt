@@ -7,6 +7,7 @@
 --     PathIndependent  another history that reaches the same rules and bits in memory of equal lengths holds the same area, and any further calls are answered alike
 --     AllCertified     each choice is certified: the first, and every choice anew, whatever moment it finds, so each in the history
 --     Facts            all of these
+--     FactsOfAll       they hold of every history, whoever lived it
 -- Assumes nothing.
 use Rattle.std.specs.Prelude.{◌≡◌, ℕ, ◌≤◌, List, length, Option}
 use Rattle.kinds.specs.Meaning.{Meaning}
@@ -69,5 +70,5 @@ module _ {Header Rule Row : Type 0} (k : Meaning Header Rule Row) where
       pub certified : AllCertified
 
   -- of every history
-  abbrev pub ThreeFacts : Type 0
-  ThreeFacts = (start : Start Row) (choice : Choice) (turns : List (AnyTurn Rule Header)) (answers : List Answer) (last : Moment Row) → History k start choice turns answers last → Facts start choice turns answers last
+  abbrev pub FactsOfAll : Type 0
+  FactsOfAll = (start : Start Row) (choice : Choice) (turns : List (AnyTurn Rule Header)) (answers : List Answer) (last : Moment Row) → History k start choice turns answers last → Facts start choice turns answers last

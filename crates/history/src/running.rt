@@ -4,7 +4,7 @@ ghost use Rattle.table.specs.Refusals.{back};
 ghost use Rattle.table.specs.Calls.{memory};
 ghost use Rattle.history.specs.Turns.{priced};
 ghost use Rattle.history.specs.Runs.{numbers_of, Makes, Runs};
-ghost use Rattle.history.specs.Facts.{ThreeFacts};
+ghost use Rattle.history.specs.Facts.{FactsOfAll};
 
 use super::carrying::carry_out;
 use super::turn::{Asked, Turn};
@@ -43,7 +43,7 @@ pub fn run<K: Kind, J: Judge>(
     turns: &mut [Turn<K::Rule, K::Header, J>],
 ) -> Result<(LaidTable<K>, Choice), Refused<OpenBook<K>>>
     ensures run { Runs K.meaning book.lines (priced J.cost asked.now) (memory lines.old area.old tally.old) (memory lines.new area.new tally.new) J.cost turns.old turns.new numbers_of (back book) result }
-    ensures facts { ThreeFacts K.meaning }
+    ensures facts { FactsOfAll K.meaning }
 {
     let (mut table, choice) = make(book, lines, area, tally, asked)?;
     carry_out(&mut table, lines, area, tally, turns);

@@ -1,4 +1,4 @@
--- The plain book of a job: what its records mean, without lent memory, area or marks.
+-- The plain job: what a job's records mean, without lent memory, area or marks.
 --     Lengths               how much memory a job is lent
 --     PlainBook, has_table  a book: open, by a rule or none for each line; or the plain book of a table
 --     told                  what a table answers, as the job tells it

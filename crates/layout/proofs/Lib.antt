@@ -1,8 +1,8 @@
 pub mod Starts
 pub mod Joined
 pub mod Laid
-mod Writes
+mod Placing
+mod Whole
 mod Tries
 mod Walk
 pub mod Looks
-mod Turns

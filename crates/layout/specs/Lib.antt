@@ -1,4 +1,4 @@
 pub mod Layout
-pub mod Writing
+pub mod Placing
 pub mod LookUp
 pub mod Faults

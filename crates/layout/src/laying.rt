@@ -1,70 +1,60 @@
 // Laying a table: its size is compared with the area before anything is written.
-ghost use Rattle.std.specs.Prelude.{◌≡◌, ◌+◌, ◌^◌, ◌<◌, ◌≤◌, ◌++◌, length, replicate, is_ok, if◌then◌else◌, sum};
+ghost use Rattle.std.specs.Prelude.{◌≡◌, ◌+◌, ◌-◌, ◌^◌, ◌<◌, ◌≤◌, ◌++◌, length, take, replicate, is_ok, if◌then◌else◌, sum};
 ghost use Rattle.std.specs.List.{flat_map};
 ghost use Rattle.kinds.specs.Checks.{checked};
 ghost use Rattle.kinds.specs.Lines.{rules_of};
-ghost use Rattle.blocks.specs.Blocks.{Fits, block, blocks as all_blocks, sizes as all_sizes};
+ghost use Rattle.blocks.specs.Blocks.{Fits, blocks as all_blocks, sizes as all_sizes};
 ghost use Rattle.blocks.specs.Changes.{changed};
 ghost use Rattle.blocks.specs.Counts.{table_checks, began};
 ghost use Rattle.blocks.specs.Plans.{rules_in};
-ghost use Rattle.layout.specs.Layout.{starts, laid};
-ghost use Rattle.layout.specs.Writing.{written, SameArea};
+ghost use Rattle.layout.specs.Layout.{starts as starts_of, laid};
 
-use super::writer::Writer;
+use super::entries::write_blocks;
 use bits::Bits;
 use blocks::{Change, Plan, Refusal, Tally};
 use kinds::{Kind, Line};
 
-// Writes where each block starts, and last where they all end.
-fn write_starts(out: &mut Writer, sizes: &[u32])
-    requires room { length (written out.old) + length sizes.now < length out.old.area.now }
-    requires few { sum sizes.now < 2 ^ 32 }
-    ensures starts { written out.new ≡ written out.old ++ starts sizes.now }
-    ensures kept { SameArea out.old out.new }
+// Writes where each block starts, and last where they all end. Of the numbers, which are the sizes, each gives way to its block's start.
+// A range and no iterator: two slices are written at the same place.
+fn write_starts(starts: &mut [u32], numbers: &mut [u32])
+    requires room { length starts.old ≡ length numbers.old + 1 }
+    requires few { sum numbers.old < 2 ^ 32 }
+    ensures starts { starts.new ≡ starts_of numbers.old }
+    ensures numbers { numbers.new ≡ take (length numbers.old) (starts_of numbers.old) }
 {
     let mut start: u32 = 0;
-    for size in sizes {
-        out.put(start);
+    for cell in 0..numbers.len() {
+        let size = numbers[cell];
+        starts[cell] = start;
+        numbers[cell] = start;
         start += size;
     }
-    out.put(start);
+    starts[numbers.len()] = start;
 }
 
-// Writes the block of a cell. A range and no iterator over the lines, since their numbers are what is written.
-fn write_block<K: Kind>(out: &mut Writer, plan: &Plan<K::Row>, cell: usize)
-    requires { length (written out.old) + length (block K.meaning (rules_in K.meaning plan.now) plan.now.bits.now cell) ≤ length out.old.area.now }
-    ensures entries { written out.new ≡ written out.old ++ block K.meaning (rules_in K.meaning plan.now) plan.now.bits.now cell }
-    ensures kept { SameArea out.old out.new }
+// Writes behind the starts all blocks, so many entries, and zeros to the end.
+fn write_rest<K: Kind>(rest: &mut [u32], cursors: &mut [u32], plan: &Plan<K::Row>, count: usize)
+    requires few { length cursors.old ≤ 4096 }
+    requires starts { cursors.old ≡ take (2 ^ length plan.now.bits.now) (starts_of (all_sizes K.meaning (rules_in K.meaning plan.now) plan.now.bits.now)) }
+    requires count { count ≡ sum (all_sizes K.meaning (rules_in K.meaning plan.now) plan.now.bits.now) }
+    requires room { count ≤ length rest.old }
+    ensures { rest.new ≡ flat_map (λ entries. entries) (all_blocks K.meaning (rules_in K.meaning plan.now) plan.now.bits.now) ++ replicate (length rest.old - count) 0 }
 {
-    for line in 0..plan.lines.len() {
-        if plan.names::<K>(cell, line) {
-            // There are few lines, so `as` loses nothing.
-            out.put(line as u32);
-        }
-    }
+    write_blocks::<K>(&mut rest[..count], cursors, plan);
+    blocks::clear_from(rest, count);
 }
 
-// Writes all blocks in cell order. A range, since a cell is its number.
-fn write_blocks<K: Kind>(out: &mut Writer, plan: &Plan<K::Row>)
-    requires { length (written out.old) + sum (all_sizes K.meaning (rules_in K.meaning plan.now) plan.now.bits.now) ≤ length out.old.area.now }
-    ensures entries { written out.new ≡ written out.old ++ flat_map (λ entries. entries) (all_blocks K.meaning (rules_in K.meaning plan.now) plan.now.bits.now) }
-    ensures kept { SameArea out.old out.new }
-{
-    for cell in 0..plan.bits.cells() {
-        write_block::<K>(out, plan, cell);
-    }
-}
-
-// Writes a whole table that was counted and fits. That there are few sizes is told by `Tally::sizes`, since a slice promises no length.
-fn write_table<K: Kind>(plan: &Plan<K::Row>, sizes: &[u32], area: &mut [u32])
-    requires few { length sizes.now ≤ 4096 }
-    requires counted { sizes.now ≡ all_sizes K.meaning (rules_in K.meaning plan.now) plan.now.bits.now }
+// Writes a whole table that was counted into the numbers of a tally, and fits.
+fn write_table<K: Kind>(plan: &Plan<K::Row>, tally: &mut [u32], area: &mut [u32])
+    requires few { 2 ^ length plan.now.bits.now ≤ length tally.old }
+    requires counted { take (2 ^ length plan.now.bits.now) tally.old ≡ all_sizes K.meaning (rules_in K.meaning plan.now) plan.now.bits.now }
     requires room { Fits K.meaning (rules_in K.meaning plan.now) plan.now.bits.now (length area.old) }
     ensures { area.new ≡ laid K.meaning (rules_in K.meaning plan.now) plan.now.bits.now (length area.old) }
 {
-    let mut out = Writer::new(area);
-    write_starts(&mut out, sizes);
-    write_blocks::<K>(&mut out, plan);
+    let cells = plan.bits.cells();
+    let (starts, rest) = area.split_at_mut(cells + 1);
+    write_starts(starts, &mut tally[..cells]);
+    write_rest::<K>(rest, &mut tally[..cells], plan, starts[cells] as usize);
 }
 
 // Lays the table of some lines, which may have one of them changed, for a set of bits, or leaves the area as it was.
@@ -87,7 +77,8 @@ pub fn lay<K: Kind>(
         lines,
         change,
         bits,
+        places: bits.places(),
     };
-    write_table::<K>(&plan, guard.sizes(bits), area);
+    write_table::<K>(&plan, guard.cells, area);
     Ok(())
 }

@@ -1,6 +1,8 @@
 -- The records of a job, one behind the other: the body's length in two bytes, the kind in two bytes, and the body.
 --     little_endian   the number that some bytes from a place on write, the least significant first
---     IsCutOff        the job ends inside the record that begins at a place
+--     is_cut_off      whether the job ends inside the record that begins at a place
+--     IsCutOff        that it does, told with that place
+--     Is              the record that begins at a place, and where it ends
 --     Reads           what a reader at a place of the job gives, and the place where it goes on
 --     Walks           what a reader gives in order from a place on, up to another: each record begins where the one before it ended
 --     bytes_of        the bytes of the job that a record takes up

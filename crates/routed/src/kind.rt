@@ -1,7 +1,7 @@
 // The routed kind as one of the table's kinds.
-ghost use Rattle.std.specs.Prelude.{◌≡◌, ◌-◌, ◌<◌, ◌≤◌, ◌↔◌, IsTrue};
+ghost use Rattle.std.specs.Prelude.{◌≡◌, ◌-◌, ◌<◌, ◌≤◌, ◌↔◌, IsTrue, true, Ok, is_some};
 ghost use Rattle.routed.specs.Ranges.{SomePort};
-ghost use Rattle.routed.specs.Routed.{routed};
+ghost use Rattle.routed.specs.Routed.{routed, rule_in};
 ghost use Rattle.routed.specs.Law.{routed_lawful};
 
 use super::packet::Header;
@@ -36,7 +36,10 @@ impl Kind for Routed {
         }
     }
 
-    fn matches(rule: &Rule, header: &Header) -> bool {
+    fn matches(rule: &Rule, header: &Header) -> bool
+        ensures answer { result ≡ routed.matches rule.now header.now }
+        ensures all { rule_in Row.ALL ≡ Ok rule.now → result ≡ true }
+    {
         rule.source.contains(header.source)
             && rule.destination.contains(header.destination)
             && rule.source_ports.contains(header.source_port)
@@ -60,7 +63,10 @@ impl Kind for Routed {
     }
 
     // The same line in each kind and no body in the trait: no plainer, since the trait would need a bound for this alone.
-    fn rule(row: &Row) -> Option<Rule> {
+    fn rule(row: &Row) -> Option<Rule>
+        ensures answer { result ≡ routed.holds row.now }
+        ensures all { row.now ≡ Row.ALL → is_some result ≡ true }
+    {
         Rule::try_from(*row).ok()
     }
 

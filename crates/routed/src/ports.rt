@@ -38,6 +38,7 @@ impl PortRange {
     {
         let low = self.low >> (15 - b);
         let high = self.high >> (15 - b);
-        low != high || (low % 2 == 1) == value
+        // `|`, which asks both: neither answer is likelier.
+        (low != high) | ((low % 2 == 1) == value)
     }
 }

@@ -1,5 +1,5 @@
 // Address prefixes.
-ghost use Rattle.std.specs.Prelude.{◌≡◌, ◌-◌, ◌%◌, ◌^◌, ◌≤◌};
+ghost use Rattle.std.specs.Prelude.{◌≡◌, ◌-◌, ◌%◌, ◌^◌, ◌<◌, ◌≤◌};
 
 use super::fault::Defect;
 use kinds::digit;
@@ -23,7 +23,7 @@ impl Prefix {
         if length > 32 {
             return Err(Defect::PrefixLength);
         }
-        if u64::from(address) % (1u64 << (32 - length)) != 0 {
+        if rest(address, length) != 0 {
             return Err(Defect::StrayBit);
         }
         Ok(Prefix { address, length })
@@ -39,8 +39,18 @@ impl Prefix {
 
     // Whether a value is admitted at bit b: the own one below the length, both from there on.
     pub(crate) fn admits(&self, b: usize, value: bool) -> bool
+        requires { b < 32 }
         ensures { result ≡ prefix_admits self.now b value }
     {
-        b >= usize::from(self.length) || value == digit(u64::from(self.address), 31 - b)
+        // `|`, which asks both: neither answer is likelier.
+        (b >= usize::from(self.length)) | (value == digit(u64::from(self.address), 31 - b))
     }
+}
+
+// The number that stands behind the first bits of an address.
+fn rest(address: u32, length: u8) -> u64
+    requires { length ≤ 32 }
+    ensures { result ≡ address % 2 ^ (32 - length) }
+{
+    u64::from(address) & ((1u64 << (32 - length)) - 1)
 }

@@ -41,6 +41,7 @@ impl ProtocolMatch {
         requires { b < 8 }
         ensures { result ≡ protocol_admits self.now b value }
     {
-        !digit(u64::from(self.mask), 7 - b) || value == digit(u64::from(self.value), 7 - b)
+        // `|`, which asks both: neither answer is likelier.
+        !digit(u64::from(self.mask), 7 - b) | (value == digit(u64::from(self.value), 7 - b))
     }
 }

@@ -1,12 +1,12 @@
 use Rattle.std.proofs.Common.{rules}
 use Rattle.table.specs.Refusals.{back}
 use Rattle.history.specs.Turns.{priced}
-use Rattle.history.proofs.Facts.{three_facts}
+use Rattle.history.proofs.Facts.{facts_of_all}
 use Rattle.history.proofs.Made.{run_is}
 use Rattle.history.proofs.running.run.Goals as goal
 
 pub returns-in_err-table-clause-facts : goal.returns-in_err-table-clause-facts
-returns-in_err-table-clause-facts g c = three_facts g.K.Kind.meaning g.met.K.Kind.lawful
+returns-in_err-table-clause-facts g c = facts_of_all g.K.Kind.meaning g.met.K.Kind.lawful
 
 pub returns-clause-run : goal.returns-clause-run
 returns-clause-run g c =
@@ -16,4 +16,4 @@ returns-clause-run g c =
     c.in_ok-table.ensures (search rules) (search rules)
 
 pub returns-clause-facts : goal.returns-clause-facts
-returns-clause-facts g c = three_facts g.K.Kind.meaning g.met.K.Kind.lawful
+returns-clause-facts g c = facts_of_all g.K.Kind.meaning g.met.K.Kind.lawful
