@@ -6,7 +6,7 @@ use Rattle.std.proofs.lemmas.Nat.{shr_high, mod-mul-add}
 use Rattle.std.proofs.lemmas.Bool.{and_from}
 use Rattle.kinds.specs.Meaning.{Meaning, Lawful}
 use Rattle.kinds.specs.Bits.{digit}
-use Rattle.blocks.specs.Cells.{cell_of, weigh, admits_cell}
+use Rattle.blocks.specs.Cells.{weigh, number_of, cell_of, admits_cell}
 
 twice : (hi x : ℕ) → hi * (2 * x) ≡ hi * (x + x)
 twice hi x = let e : 2 * x ≡ x + x = omega arith in ap (λ y. hi * y) e
@@ -20,7 +20,7 @@ odd : (hi : ℕ) (v : Bool) → eqb ((hi * 2 + bool_byte v) % 2) 1 ≡ v
 odd hi true = ap (λ x. eqb x 1) (mod-mul-add hi 2 1 (omega arith))
 odd hi false = ap (λ x. eqb x 1) (mod-mul-add hi 2 0 (omega arith))
 
-digit_here : (hi n c : ℕ) (v : Bool) → c < 2 ^ n → digit ((hi * 2 + bool_byte v) * 2 ^ n + c) n ≡ v
+pub digit_here : (hi n c : ℕ) (v : Bool) → c < 2 ^ n → digit ((hi * 2 + bool_byte v) * 2 ^ n + c) n ≡ v
 digit_here hi n c v h = ap (λ x. eqb (x % 2) 1) (shr_high (hi * 2 + bool_byte v) n c h) ∙ odd hi v
 
 pub byte_few : (v : Bool) → bool_byte v ≤ 1
@@ -31,34 +31,39 @@ weigh_le : (v : Bool) (n : ℕ) → weigh v n ≤ 2 ^ n
 weigh_le true n = omega arith
 weigh_le false n = omega arith
 
-module _ {Header Rule Row : Type 0} (k : Meaning Header Rule Row) where
-  pub cell_of_below : (bits : List ℕ) (h : Header) → cell_of k bits h < 2 ^ length bits
-  cell_of_below [] h = omega arith
-  cell_of_below (b ∷ bs) h = omega (arith, cell_of_below bs h, weigh_le (k.bit h b) (length bs), two-pow-succ (length bs))
+-- the number made of the values at some bits, and how a loop over the bits makes it
+module _ (value : ℕ → Bool) where
+  pub number_below : (bits : List ℕ) → number_of value bits < 2 ^ length bits
+  number_below [] = omega arith
+  number_below (b ∷ bs) = omega (arith, number_below bs, weigh_le (value b) (length bs), two-pow-succ (length bs))
 
-  -- one turn of the loop over the bits: the first of those left moves from below the weights into the number
-  pub cell_turn : {left behind : List ℕ} {b byte : ℕ} {v : Bool} (bits : List ℕ) (h : Header) (cell : ℕ) → left ≡ b ∷ behind → v ≡ k.bit h b → byte ≡ bool_byte v → cell * 2 ^ length left + cell_of k left h ≡ cell_of k bits h → (2 * cell + byte) * 2 ^ length behind + cell_of k behind h ≡ cell_of k bits h
-  cell_turn {left = left} {behind = behind} {byte = byte} {v = v} bits h cell is told told_byte so_far =
-      let moved : (2 * cell + byte) * 2 ^ length behind + cell_of k behind h ≡ cell * 2 ^ suc (length behind) + (weigh v (length behind) + cell_of k behind h) =
-      ap (λ (n : ℕ). n * 2 ^ length behind + cell_of k behind h) (omega (arith, told_byte)) ∙ sym (regroup v cell (length behind) (cell_of k behind h)) in
+  -- one turn of the loop: the first of the bits left moves from below the weights into the number
+  pub number_turn : {left behind : List ℕ} {b byte : ℕ} {v : Bool} (bits : List ℕ) (number : ℕ) → left ≡ b ∷ behind → v ≡ value b → byte ≡ bool_byte v → number * 2 ^ length left + number_of value left ≡ number_of value bits → (2 * number + byte) * 2 ^ length behind + number_of value behind ≡ number_of value bits
+  number_turn {left = left} {behind = behind} {byte = byte} {v = v} bits number is told told_byte so_far =
+      let moved : (2 * number + byte) * 2 ^ length behind + number_of value behind ≡ number * 2 ^ suc (length behind) + (weigh v (length behind) + number_of value behind) =
+      ap (λ (n : ℕ). n * 2 ^ length behind + number_of value behind) (omega (arith, told_byte)) ∙ sym (regroup v number (length behind) (number_of value behind)) in
       moved
-      ∙ ap (λ (w : Bool). cell * 2 ^ suc (length behind) + (weigh w (length behind) + cell_of k behind h)) told
-      ∙ ap (λ (bs : List ℕ). cell * 2 ^ length bs + cell_of k bs h) (sym is)
+      ∙ ap (λ (w : Bool). number * 2 ^ suc (length behind) + (weigh w (length behind) + number_of value behind)) told
+      ∙ ap (λ (bs : List ℕ). number * 2 ^ length bs + number_of value bs) (sym is)
       ∙ so_far
 
-  -- with no bit left it is the cell
-  pub cell_last : {left : List ℕ} (bits : List ℕ) (h : Header) (cell : ℕ) → left ≡ [] → cell * 2 ^ length left + cell_of k left h ≡ cell_of k bits h → cell < 2 ^ length bits
-  cell_last {left = left} bits h cell none so_far =
-      let is : cell * 2 ^ length left + cell_of k left h ≡ cell = ap (λ (bs : List ℕ). cell * 2 ^ length bs + cell_of k bs h) none ∙ omega arith in
-      omega (arith, cell_of_below bits h)
+  -- with no bit left it is the number
+  pub number_last : {left : List ℕ} (bits : List ℕ) (number : ℕ) → left ≡ [] → number * 2 ^ length left + number_of value left ≡ number_of value bits → number ≡ number_of value bits
+  number_last {left = left} bits number none so_far =
+      let is : number * 2 ^ length left + number_of value left ≡ number = ap (λ (bs : List ℕ). number * 2 ^ length bs + number_of value bs) none ∙ omega arith in
+      sym is ∙ so_far
 
   -- the number so far is one of a cell too
-  pub cell_few : (bits left : List ℕ) (h : Header) (cell : ℕ) → length bits ≤ 12 → cell * 2 ^ length left + cell_of k left h ≡ cell_of k bits h → cell < 4096
-  cell_few bits left h cell few so_far =
+  pub number_few : (bits left : List ℕ) (number : ℕ) → length bits ≤ 12 → number * 2 ^ length left + number_of value left ≡ number_of value bits → number < 4096
+  number_few bits left number few so_far =
       let most : 2 ^ length bits ≤ 4096 = pow_mono {j = 12} few in
       let weight : 1 ≤ 2 ^ length left = pow_mono {i = 0} {j = length left} (omega arith) in
-      let part : cell * 1 ≤ cell * 2 ^ length left = mul-le-mul (omega arith) weight in
-      omega (arith, cell_of_below bits h)
+      let part : number * 1 ≤ number * 2 ^ length left = mul-le-mul (omega arith) weight in
+      omega (arith, number_below bits)
+
+module _ {Header Rule Row : Type 0} (k : Meaning Header Rule Row) where
+  pub cell_of_below : (bits : List ℕ) (h : Header) → cell_of k bits h < 2 ^ length bits
+  cell_of_below bits h = number_below (k.bit h) bits
 
   -- the cell's own digits at the end of any number
   admits_under : Lawful k → (r : Rule) (h : Header) → k.matches r h ≡ true → (bits : List ℕ) (hi i : ℕ) → i ≡ hi * 2 ^ length bits + cell_of k bits h → admits_cell k r bits i ≡ true
@@ -66,7 +71,7 @@ module _ {Header Rule Row : Type 0} (k : Meaning Header Rule Row) where
   admits_under law r h m (b ∷ bs) hi i e =
       let v = k.bit h b in
       let at : i ≡ (hi * 2 + bool_byte v) * 2 ^ length bs + cell_of k bs h = e ∙ regroup v hi (length bs) (cell_of k bs h) in
-      let seen : digit i (length bs) ≡ v = ap (λ x. digit x (length bs)) at ∙ digit_here hi (length bs) (cell_of k bs h) v (cell_of_below bs h) in
+      let seen : digit i (length bs) ≡ v = ap (λ x. digit x (length bs)) at ∙ digit_here hi (length bs) (cell_of k bs h) v (number_below (k.bit h) bs) in
       and_from (k.admits r b (digit i (length bs))) (admits_cell k r bs i) (ap (k.admits r b) seen ∙ law.agrees r h m b) (admits_under law r h m bs (hi * 2 + bool_byte v) i at)
 
   pub admits_own : Lawful k → (r : Rule) (h : Header) → k.matches r h ≡ true → (bits : List ℕ) → admits_cell k r bits (cell_of k bits h) ≡ true

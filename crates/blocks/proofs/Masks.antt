@@ -1,29 +1,22 @@
 -- The cells that a rule admits, by the values that it admits at each bit.
-use Rattle.std.proofs.Common.{◌≡◌, ℕ, zero, suc, ◌+◌, ◌-◌, ◌*◌, ◌/◌, ◌%◌, ◌^◌, ◌<◌, ◌≤◌, bit_and, Bool, true, false, cond, not, ◌&&◌, ◌||◌, ◌==◌, List, [], ◌∷◌, ◌++◌, map, length, filter, sym, refl, ap, ap₂, ◌∙◌, subst, add-mul, append-nil, Some, None, Option, option_map, inl, inr, arith}
+use Rattle.std.proofs.Common.{◌≡◌, ℕ, zero, suc, ◌+◌, ◌-◌, ◌*◌, ◌/◌, ◌%◌, ◌^◌, ◌<◌, bit_and, bit_or, Bool, true, false, cond, not, ◌&&◌, ◌==◌, List, [], ◌∷◌, ◌++◌, map, length, filter, sym, refl, ap, ap₂, ◌∙◌, add-mul, append-nil, Some, None, Option, inl, inr, arith}
 use Rattle.std.specs.Prelude.{⊤}
 use native.Mathlib.Nat.{two-pow-succ}
-use mir.Val.{bool_byte}
 use Rattle.std.specs.List.{range_with_len}
-use Rattle.std.proofs.lemmas.Nat.{and_le_r, and_block, shr_high, shr_split, mod_below, pow_pos}
+use Rattle.std.proofs.lemmas.Nat.{and_le_r, and_block, or_lt, shr_high, shr_split, mod_below, pow_pos}
 use Rattle.std.proofs.lemmas.Bool.{ne_eqb, eq-eqb, cases_eq}
 use Rattle.std.proofs.lemmas.List.{map-append}
 use Rattle.kinds.specs.Meaning.{Meaning}
 use Rattle.kinds.specs.Bits.{digit}
-use Rattle.blocks.specs.Cells.{admits_cell}
-use Rattle.blocks.specs.Masks.{digits_at, behind, masks_of, admitted_cells}
-use Rattle.blocks.specs.Parts.{parts}
+use Rattle.blocks.specs.Cells.{weigh, admits_cell}
+use Rattle.blocks.specs.Masks.{admitted_cells, least, largest}
+use Rattle.blocks.specs.Parts.{parts_left}
+use Rattle.blocks.proofs.Cells.{digit_here, number_below}
 
 -- filters over ranges: split, shifted, and by another test
 joined : {X : Type 0} (t : Bool) (x : X) (xs ys : List X) → cond t (x ∷ (xs ++ ys)) (xs ++ ys) ≡ cond t (x ∷ xs) xs ++ ys
 joined true x xs ys = refl
 joined false x xs ys = refl
-
-twofold : (a : ℕ) → a + a ≡ 2 * a
-twofold a = omega arith
-
-abbrev sum_or : Option (ℕ × ℕ) → ℕ
-sum_or None = 0
-sum_or (Some d) = d.0 + d.1
 
 split : (test : ℕ → Bool) (n from to many left : ℕ) → many ≡ n + left → to ≡ from + n → filter test (range_with_len from many) ≡ filter test (range_with_len from n) ++ filter test (range_with_len to left)
 split test zero from to many left count place = ap₂ (λ (a b : ℕ). filter test (range_with_len a b)) (omega arith) (omega arith)
@@ -69,10 +62,10 @@ digit_shift hi n x =
 
 -- the digit in front, below and above half of the numbers
 digit_low : (n x : ℕ) → x < 2 ^ n → digit x n ≡ false
-digit_low n x lt = ap (λ (t : ℕ). t % 2 == 1) (ap (λ (t : ℕ). t / 2 ^ n) (omega arith) ∙ shr_high 0 n x lt)
+digit_low n x lt = ap (λ (c : ℕ). digit c n) (omega arith) ∙ digit_here 0 n x false lt
 
 digit_high : (n x : ℕ) → x < 2 ^ n → digit (2 ^ n + x) n ≡ true
-digit_high n x lt = ap (λ (t : ℕ). t % 2 == 1) (ap (λ (t : ℕ). t / 2 ^ n) (omega arith) ∙ shr_high 1 n x lt)
+digit_high n x lt = ap (λ (c : ℕ). digit c n) (omega arith) ∙ digit_here 0 n x true lt
 
 module _ {Header Rule Row : Type 0} (k : Meaning Header Rule Row) (r : Rule) where
   admits_shift : (bits : List ℕ) (hi x : ℕ) → admits_cell k r bits (hi * 2 ^ length bits + x) ≡ admits_cell k r bits x
@@ -93,46 +86,6 @@ module _ {Header Rule Row : Type 0} (k : Meaning Header Rule Row) (r : Rule) whe
         (λ x lt. ap (λ (d : Bool). k.admits r b d && own x) (digit_low n x lt))
         (λ x lt. ap₂ (λ (d : Bool) (t : Bool). k.admits r b d && t) (digit_high n x lt) (ap own (omega arith) ∙ admits_shift bs 1 x))
         ∙ ap₂ (λ (xs ys : List ℕ). xs ++ map (λ c. 2 ^ n + c) ys) (guarded (k.admits r b false) own (range_with_len 0 (2 ^ n))) (guarded (k.admits r b true) own (range_with_len 0 (2 ^ n)))
-
--- what was found so far
-abbrev pub found : Bool → (least free : ℕ) → Option (ℕ × ℕ)
-found some least free = cond some (Some (least, free)) None
-
--- the masks so far with those of the bits that are left: one digit more
-turned : (least free n : ℕ) (front back : Option (ℕ × ℕ)) → behind (Some (least, free)) (suc n) (behind front n back) ≡ behind (option_map (λ d. (2 * least + d.0, 2 * free + d.1)) front) n back
-turned least free n None back = refl
-turned least free n (Some d) None = refl
-turned least free n (Some d) (Some m) =
-    let moved : (a d b : ℕ) → a * 2 ^ suc n + (d * 2 ^ n + b) ≡ (2 * a + d) * 2 ^ n + b = λ a d b. omega (arith, ap (λ (p : ℕ). a * p) (two-pow-succ n), add-mul a a (2 ^ n), add-mul (a + a) d (2 ^ n), ap (λ (t : ℕ). (t + d) * 2 ^ n) (twofold a)) in
-    ap Some (ap₂ (λ (a b : ℕ). (a, b)) (moved least d.0 m.0) (moved free d.1 m.1))
-
--- by what a rule answers at a bit
-by_answers : (some low high : Bool) (least free n : ℕ) (back : Option (ℕ × ℕ)) → behind (found some least free) (suc n) (behind (digits_at low high) n back) ≡ behind (found (some && (low || high)) (2 * least + bool_byte (not low)) (2 * free + bool_byte (low && high))) n back
-by_answers false low high least free n back = refl
-by_answers true true true least free n back = turned least free n (Some (0, 1)) back
-by_answers true true false least free n back = turned least free n (Some (0, 0)) back
-by_answers true false true least free n back = turned least free n (Some (1, 0)) back
-by_answers true false false least free n back = refl
-
-digits_few : (low high : Bool) → bool_byte (not low) + bool_byte (low && high) ≤ 1
-digits_few true true = omega arith
-digits_few true false = omega arith
-digits_few false true = omega arith
-digits_few false false = omega arith
-
-module _ {Header Rule Row : Type 0} (k : Meaning Header Rule Row) (r : Rule) {left rest : List ℕ} {b : ℕ} (is : left ≡ b ∷ rest) {low high : Bool} (lows : low ≡ k.admits r b false) (highs : high ≡ k.admits r b true) {digit more : ℕ} (digits : digit ≡ bool_byte (not low)) (mores : more ≡ bool_byte (low && high)) where
-  pub turn : (some : Bool) (least free : ℕ) (whole : Option (ℕ × ℕ)) → whole ≡ behind (found some least free) (length left) (masks_of k r left) → whole ≡ behind (found (some && (low || high)) (2 * least + digit) (2 * free + more)) (length rest) (masks_of k r rest)
-  turn some least free whole so_far =
-      so_far
-      ∙ ap (λ (bits : List ℕ). behind (found some least free) (length bits) (masks_of k r bits)) is
-      ∙ ap (λ (d : Option (ℕ × ℕ)). behind (found some least free) (suc (length rest)) (behind d (length rest) (masks_of k r rest))) (sym (ap₂ digits_at lows highs))
-      ∙ by_answers some low high least free (length rest) (masks_of k r rest)
-      ∙ ap₂ (λ (d m : ℕ). behind (found (some && (low || high)) (2 * least + d) (2 * free + m)) (length rest) (masks_of k r rest)) (sym digits) (sym mores)
-
-  pub few_more : (least free : ℕ) → length left ≤ 12 → least + free < 2 ^ (12 - length left) → 2 * least + digit + (2 * free + more) < 2 ^ (12 - length rest)
-  few_more least free short few =
-      let width : 12 - length rest ≡ suc (12 - length left) = omega (arith, ap length is) in
-      omega (arith, digits, mores, digits_few low high, ap (λ (n : ℕ). 2 ^ n) width, two-pow-succ (12 - length left))
 
 -- the digits of a mask, put together in every way
 abbrev ways : (n mask : ℕ) → List ℕ
@@ -165,6 +118,24 @@ module _ (n mask : ℕ) (within : mask < 2 ^ n) where
       twice (λ x. bit_and x (2 ^ n + mask) == x) is_part is_part n
       (λ x lt. ap (λ (d : ℕ). d == x) (low x lt))
       (λ x lt. ap (λ (d : ℕ). d == 2 ^ n + x) (high x lt) ∙ same_test (2 ^ n + bit_and x mask) (2 ^ n + x) (bit_and x mask) x (λ e. omega arith) (λ e. omega arith))
+
+-- whether 0 and 1 are admitted at a bit, as two digits: that of the least cell, and 1 where both are; none where neither is
+abbrev digits_at : (zero one : Bool) → Option (ℕ × ℕ)
+digits_at true true = Some (0, 1)
+digits_at true false = Some (0, 0)
+digits_at false true = Some (1, 0)
+digits_at false false = None
+
+-- the digits of a bit, with those of the bits behind it: so many in each number
+abbrev behind : Option (ℕ × ℕ) → ℕ → Option (ℕ × ℕ) → Option (ℕ × ℕ)
+behind (Some front) n (Some back) = Some (front.0 * 2 ^ n + back.0, front.1 * 2 ^ n + back.1)
+behind (Some front) n None = None
+behind None n back = None
+
+-- the least cell and the mask of its free digits, or none where no cell is admitted
+abbrev masks_of : {Header Rule Row : Type 0} → Meaning Header Rule Row → Rule → List ℕ → Option (ℕ × ℕ)
+masks_of k r [] = Some (0, 0)
+masks_of k r (b ∷ bs) = behind (digits_at (k.admits r b false) (k.admits r b true)) (length bs) (masks_of k r bs)
 
 -- the cells of some masks
 abbrev cells_of_masks : ℕ → Option (ℕ × ℕ) → List ℕ
@@ -214,6 +185,40 @@ front_more n false true (Some m) w =
     ∙ ap (map (λ d. 1 * 2 ^ n + m.0 + d)) (sym (ways_fixed n m.1 (omega arith)))
     ∙ ap (λ (free : ℕ). map (λ d. 1 * 2 ^ n + m.0 + d) (ways (suc n) free)) (omega arith)
 
+-- the masks by the least cell and the largest: where the digits of the first are among those of the second, the others of these are free
+abbrev between : (low high : ℕ) → Option (ℕ × ℕ)
+between low high = cond (bit_and low high == low) (Some (low, high - low)) None
+
+among : (low high : ℕ) → bit_and low high ≡ low → between low high ≡ Some (low, high - low)
+among low high is = ap (λ (t : Bool). cond t (Some (low, high - low)) None) (eq-eqb (bit_and low high) low is)
+
+not_among : (low high : ℕ) → (bit_and low high ≡ low → ⊥) → between low high ≡ None
+not_among low high ne = ap (λ (t : Bool). cond t (Some (low, high - low)) None) (ne_eqb (bit_and low high) low ne)
+
+-- with one digit more in front of each
+module _ (n low high : ℕ) (few : low < 2 ^ n) (many : high < 2 ^ n) where
+  front : (a b free : ℕ) → bit_and a b ≡ a → b ≡ free + a → between (a * 2 ^ n + low) (b * 2 ^ n + high) ≡ behind (Some (a, free)) n (between low high)
+  front a b free inside sum =
+      let both : bit_and (a * 2 ^ n + low) (b * 2 ^ n + high) ≡ a * 2 ^ n + bit_and low high =
+      and_block n a b low high few many ∙ ap (λ (d : ℕ). d * 2 ^ n + bit_and low high) inside in
+      elim (cases_eq (bit_and low high) low) [
+        | inl e ↦
+            let left : b * 2 ^ n + high - (a * 2 ^ n + low) ≡ free * 2 ^ n + (high - low) =
+            omega (arith, ap (λ (d : ℕ). d * 2 ^ n) sum, add-mul free a (2 ^ n), and_le_r low high, e) in
+            among (a * 2 ^ n + low) (b * 2 ^ n + high) (both ∙ ap (λ (l : ℕ). a * 2 ^ n + l) e)
+            ∙ ap (λ (f : ℕ). Some (a * 2 ^ n + low, f)) left
+            ∙ sym (ap (behind (Some (a, free)) n) (among low high e))
+        | inr ne ↦
+            not_among (a * 2 ^ n + low) (b * 2 ^ n + high) (λ is. ne (omega (arith, both, is)))
+            ∙ sym (ap (behind (Some (a, free)) n) (not_among low high ne))
+      ]
+
+  by_answers : (zero_too one_too : Bool) → between (weigh (not zero_too) n + low) (weigh one_too n + high) ≡ behind (digits_at zero_too one_too) n (between low high)
+  by_answers true true = ap₂ between (omega arith) (omega arith) ∙ front 0 1 1 refl refl
+  by_answers true false = ap₂ between (omega arith) (omega arith) ∙ front 0 0 0 refl refl
+  by_answers false true = ap₂ between (omega arith) (omega arith) ∙ front 1 1 0 refl refl
+  by_answers false false = ap₂ between refl (omega arith) ∙ not_among (2 ^ n + low) high (λ is. omega (arith, is, and_le_r (2 ^ n + low) high))
+
 module _ {Header Rule Row : Type 0} (k : Meaning Header Rule Row) (r : Rule) where
   within_cells : (bits : List ℕ) → Within (length bits) (masks_of k r bits)
   within_cells [] = omega arith
@@ -226,16 +231,35 @@ module _ {Header Rule Row : Type 0} (k : Meaning Header Rule Row) (r : Rule) whe
       ∙ ap (λ (cells : List ℕ). cond (k.admits r b false) cells [] ++ map (λ c. 2 ^ length bs + c) (cond (k.admits r b true) cells [])) (by_masks bs)
       ∙ front_more (length bs) (k.admits r b false) (k.admits r b true) (masks_of k r bs) (within_cells bs)
 
-  -- by the masks that are found
-  module _ (bits : List ℕ) {found : Option (ℕ × ℕ)} (told : found ≡ masks_of k r bits) where
-    pub by_parts : (least free gap : ℕ) → found ≡ Some (least, free) → free + gap ≡ 2 ^ length bits → map (λ digits. least + digits) (parts (free + gap) free 0) ≡ admitted_cells k r bits
-    by_parts least free gap is whole =
-        ap (λ (cells : ℕ). map (λ digits. least + digits) (filter (λ digits. bit_and digits free == digits) (range_with_len 0 cells))) (omega arith)
-        ∙ ap (cells_of_masks (length bits)) (sym is ∙ told)
-        ∙ sym (by_masks bits)
+  by_ends : (bits : List ℕ) → masks_of k r bits ≡ between (least k r bits) (largest k r bits)
+  by_ends [] = refl
+  by_ends (b ∷ bs) =
+      ap (behind (digits_at (k.admits r b false) (k.admits r b true)) (length bs)) (by_ends bs)
+      ∙ sym (by_answers (length bs) (least k r bs) (largest k r bs) (number_below (λ c. not (k.admits r c false)) bs) (number_below (λ c. k.admits r c true) bs) (k.admits r b false) (k.admits r b true))
 
-    pub room : (least free : ℕ) → found ≡ Some (least, free) → least + free < 2 ^ length bits
-    room least free is = subst (Within (length bits)) (sym told ∙ is) (within_cells bits)
+  -- by the ends that are found
+  module _ (bits : List ℕ) {ends : ℕ × ℕ} (found : ends ≡ (least k r bits, largest k r bits)) where
+    masks_found : cells_of_masks (length bits) (between ends.0 ends.1) ≡ admitted_cells k r bits
+    masks_found = ap (λ (e : ℕ × ℕ). cells_of_masks (length bits) (between e.0 e.1)) found ∙ ap (cells_of_masks (length bits)) (sym (by_ends bits)) ∙ sym (by_masks bits)
 
-    pub none_admitted : found ≡ None → [] ≡ admitted_cells k r bits
-    none_admitted is = ap (cells_of_masks (length bits)) (sym is ∙ told) ∙ sym (by_masks bits)
+    pub room : bit_or ends.0 ends.1 < 2 ^ length bits
+    room =
+        let low : ends.0 ≡ least k r bits = ap (λ e. e.0) found in
+        let high : ends.1 ≡ largest k r bits = ap (λ e. e.1) found in
+        or_lt (length bits) ends.0 ends.1 (omega (arith, low, number_below (λ c. not (k.admits r c false)) bits)) (omega (arith, high, number_below (λ c. k.admits r c true) bits))
+
+    module _ (free gap : ℕ) {next : Option ℕ} (is : free ≡ ends.1 - bit_and ends.0 ends.1) (whole : free + gap ≡ 2 ^ length bits) where
+      pub by_parts : bit_and ends.0 ends.1 ≡ ends.0 → next ≡ Some 0 → map (λ digits. ends.0 + digits) (parts_left (free + gap) free next) ≡ admitted_cells k r bits
+      by_parts inside first =
+          let others : free ≡ ends.1 - ends.0 = omega (arith, is, inside) in
+          ap (λ (n : Option ℕ). map (λ digits. ends.0 + digits) (parts_left (free + gap) free n)) first
+          ∙ ap (λ (cells : ℕ). map (λ digits. ends.0 + digits) (filter (λ digits. bit_and digits free == digits) (range_with_len 0 cells))) (omega arith)
+          ∙ ap (λ (f : ℕ). cells_of_masks (length bits) (Some (ends.0, f))) others
+          ∙ ap (cells_of_masks (length bits)) (sym (among ends.0 ends.1 inside))
+          ∙ masks_found
+
+      pub none_admitted : (bit_and ends.0 ends.1 ≡ ends.0 → ⊥) → next ≡ None → map (λ digits. ends.0 + digits) (parts_left (free + gap) free next) ≡ admitted_cells k r bits
+      none_admitted ne no_first =
+          ap (λ (n : Option ℕ). map (λ digits. ends.0 + digits) (parts_left (free + gap) free n)) no_first
+          ∙ ap (cells_of_masks (length bits)) (sym (not_among ends.0 ends.1 ne))
+          ∙ masks_found

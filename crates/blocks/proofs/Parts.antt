@@ -6,6 +6,7 @@ use Rattle.std.specs.List.{range_with_len}
 use Rattle.blocks.specs.Parts.{parts}
 use Rattle.std.specs.Int.Bits.{and_self, and_zero_r}
 use native.Mathlib.Nat.{two-pow-succ}
+use mir.Val.{bool_byte}
 
 module _ (n mask : ℕ) (within : mask < 2 ^ n) where
   abbrev pub others : ℕ
@@ -23,30 +24,26 @@ module _ (n mask : ℕ) (within : mask < 2 ^ n) where
   filled s own = ap (λ (d : ℕ). bit_and d mask) (sym (or_disjoint s others (apart s own))) ∙ and_or_apart mask s others none_shared ∙ own
 
 -- a number by its last digit
-abbrev byte : Bool → ℕ
-byte true = 1
-byte false = 0
-
-is_byte : (d : ℕ) → d < 2 → byte (d == 1) ≡ d
+is_byte : (d : ℕ) → d < 2 → bool_byte (d == 1) ≡ d
 is_byte zero h = refl
 is_byte (suc zero) h = refl
 is_byte (suc (suc d)) h = absurd (omega arith)
 
-halved : (s : ℕ) → s / 2 * 2 + byte (s % 2 == 1) ≡ s
+halved : (s : ℕ) → s / 2 * 2 + bool_byte (s % 2 == 1) ≡ s
 halved s = omega (arith, is_byte (s % 2) (omega arith))
 
-byte_below : (v : Bool) → byte v < 2 ^ 1
+byte_below : (v : Bool) → bool_byte v < 2 ^ 1
 byte_below true = omega arith
 byte_below false = omega arith
 
-both : (v w : Bool) → bit_and (byte v) (byte w) ≡ byte (v && w)
+both : (v w : Bool) → bit_and (bool_byte v) (bool_byte w) ≡ bool_byte (v && w)
 both true true = refl
 both true false = refl
 both false true = refl
 both false false = refl
 
-and_halved : (g h : ℕ) (v w : Bool) → bit_and (h * 2 + byte v) (g * 2 + byte w) ≡ bit_and h g * 2 + byte (v && w)
-and_halved g h v w = and_block 1 h g (byte v) (byte w) (byte_below v) (byte_below w) ∙ ap (λ (d : ℕ). bit_and h g * 2 + d) (both v w)
+and_halved : (g h : ℕ) (v w : Bool) → bit_and (h * 2 + bool_byte v) (g * 2 + bool_byte w) ≡ bit_and h g * 2 + bool_byte (v && w)
+and_halved g h v w = and_block 1 h g (bool_byte v) (bool_byte w) (byte_below v) (byte_below w) ∙ ap (λ (d : ℕ). bit_and h g * 2 + d) (both v w)
 
 -- the digits of a mask behind some of its digits: a one is added, which all other digits carry on
 abbrev pub next_part : (n mask s : ℕ) → ℕ
@@ -57,7 +54,7 @@ abbrev IsNext : (n mask s : ℕ) → Type 0
 IsNext n mask s = (s < next_part n mask s) × ((x : ℕ) → bit_and x mask ≡ x → s < x → next_part n mask s ≤ x)
 
 -- some digits of a mask, by the last of them
-own_halved : (g h : ℕ) (v w : Bool) → bit_and (h * 2 + byte v) (g * 2 + byte w) ≡ h * 2 + byte v → (bit_and h g ≡ h) × (byte v ≤ byte w)
+own_halved : (g h : ℕ) (v w : Bool) → bit_and (h * 2 + bool_byte v) (g * 2 + bool_byte w) ≡ h * 2 + bool_byte v → (bit_and h g ≡ h) × (bool_byte v ≤ bool_byte w)
 own_halved g h true true own = (omega (arith, and_halved g h true true), omega arith)
 own_halved g h true false own = absurd (omega (arith, and_halved g h true false))
 own_halved g h false true own = (omega (arith, and_halved g h false true), omega arith)
@@ -65,14 +62,14 @@ own_halved g h false false own = (omega (arith, and_halved g h false false), ome
 
 module _ (n g h : ℕ) (within : g < 2 ^ n) where
   -- the last digits are alike: the one that is added is carried past them
-  alike : (v : Bool) → IsNext n g h → IsNext (suc n) (g * 2 + byte v) (h * 2 + byte v)
+  alike : (v : Bool) → IsNext n g h → IsNext (suc n) (g * 2 + bool_byte v) (h * 2 + bool_byte v)
   alike v next =
-      let is : next_part (suc n) (g * 2 + byte v) (h * 2 + byte v) ≡ next_part n g h * 2 =
-      let sum : h * 2 + byte v + (2 ^ suc n - (g * 2 + byte v)) ≡ (h + (2 ^ n - g)) * 2 + byte false = omega (arith, two-pow-succ n, byte_below v) in
-      ap (λ (t : ℕ). bit_and t (g * 2 + byte v)) sum ∙ and_halved g (h + (2 ^ n - g)) false v ∙ omega arith in (
+      let is : next_part (suc n) (g * 2 + bool_byte v) (h * 2 + bool_byte v) ≡ next_part n g h * 2 =
+      let sum : h * 2 + bool_byte v + (2 ^ suc n - (g * 2 + bool_byte v)) ≡ (h + (2 ^ n - g)) * 2 + bool_byte false = omega (arith, two-pow-succ n, byte_below v) in
+      ap (λ (t : ℕ). bit_and t (g * 2 + bool_byte v)) sum ∙ and_halved g (h + (2 ^ n - g)) false v ∙ omega arith in (
         omega (arith, is, next.0, byte_below v),
         λ x own more.
-            let halves = own_halved g (x / 2) (x % 2 == 1) v (ap (λ (y : ℕ). bit_and y (g * 2 + byte v)) (halved x) ∙ own ∙ sym (halved x)) in
+            let halves = own_halved g (x / 2) (x % 2 == 1) v (ap (λ (y : ℕ). bit_and y (g * 2 + bool_byte v)) (halved x) ∙ own ∙ sym (halved x)) in
             omega (arith, is, halved x, halves.1, next.1 (x / 2) halves.0 (omega (arith, halved x, halves.1))),
       )
 
@@ -80,11 +77,11 @@ module _ (n g h : ℕ) (within : g < 2 ^ n) where
   added : bit_and h g ≡ h → IsNext (suc n) (g * 2 + 1) (h * 2 + 0)
   added own =
       let is : next_part (suc n) (g * 2 + 1) (h * 2 + 0) ≡ h * 2 + 1 =
-      let sum : h * 2 + 0 + (2 ^ suc n - (g * 2 + 1)) ≡ (h + (2 ^ n - 1 - g)) * 2 + byte true = omega (arith, two-pow-succ n) in
+      let sum : h * 2 + 0 + (2 ^ suc n - (g * 2 + 1)) ≡ (h + (2 ^ n - 1 - g)) * 2 + bool_byte true = omega (arith, two-pow-succ n) in
       ap (λ (t : ℕ). bit_and t (g * 2 + 1)) sum ∙ and_halved g (h + (2 ^ n - 1 - g)) true true ∙ ap (λ (d : ℕ). d * 2 + 1) (filled n g within h own) in
       (omega (arith, is), λ x own_x more. omega (arith, is))
 
-is_next_halved : (n g h : ℕ) (v w : Bool) → g < 2 ^ n → bit_and (h * 2 + byte v) (g * 2 + byte w) ≡ h * 2 + byte v → h * 2 + byte v < g * 2 + byte w → (bit_and h g ≡ h → h < g → IsNext n g h) → IsNext (suc n) (g * 2 + byte w) (h * 2 + byte v)
+is_next_halved : (n g h : ℕ) (v w : Bool) → g < 2 ^ n → bit_and (h * 2 + bool_byte v) (g * 2 + bool_byte w) ≡ h * 2 + bool_byte v → h * 2 + bool_byte v < g * 2 + bool_byte w → (bit_and h g ≡ h → h < g → IsNext n g h) → IsNext (suc n) (g * 2 + bool_byte w) (h * 2 + bool_byte v)
 is_next_halved n g h true true within own lt rec = alike n g h within true (rec (own_halved g h true true own).0 (omega arith))
 is_next_halved n g h true false within own lt rec = absurd (omega (arith, (own_halved g h true false own).1))
 is_next_halved n g h false true within own lt rec = added n g h within (own_halved g h false true own).0
@@ -97,7 +94,7 @@ is_next (suc n) mask s within own lt =
     (ap₂ bit_and (halved s) (halved mask) ∙ own ∙ sym (halved s))
     (omega (arith, halved s, halved mask))
     (λ own_half less. is_next n (mask / 2) (s / 2) (omega (arith, two-pow-succ n)) own_half less) in
-    subst (λ (m : ℕ). IsNext (suc n) m s) (halved mask) (subst (λ (t : ℕ). IsNext (suc n) (mask / 2 * 2 + byte (mask % 2 == 1)) t) (halved s) halves)
+    subst (λ (m : ℕ). IsNext (suc n) m s) (halved mask) (subst (λ (t : ℕ). IsNext (suc n) (mask / 2 * 2 + bool_byte (mask % 2 == 1)) t) (halved s) halves)
 
 -- numbers of a range that fail a test are passed over
 module _ (test : ℕ → Bool) where

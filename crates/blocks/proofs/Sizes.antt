@@ -1,7 +1,7 @@
 -- Blocks, line by line, and all sizes, cell by cell.
 use Rattle.std.proofs.Common.{◌≡◌, ℕ, zero, suc, ◌+◌, ◌*◌, ◌^◌, ◌<◌, ◌≤◌, Bool, cond, List, [], ◌∷◌, ◌++◌, map, length, get_or, take, replicate, None, sum, filter, All, Option, sym, refl, ap, ◌∙◌, subst, mul-le-mul, arith}
 use Rattle.std.specs.List.{range_with_len}
-use Rattle.std.proofs.lemmas.List.{length-map, length-take-le, get_or-map, get_or-take, take_all, ext_get_or, length-replicate, get_or-replicate}
+use Rattle.std.proofs.lemmas.List.{length-map, get_or-map, take_all, ext_get_or, length-replicate, get_or-replicate}
 use Rattle.std.proofs.lemmas.List.FromFn.{length-range_with_len, get_or-range_with_len, length-map-range_with_len, get_or-map-range_with_len}
 use Rattle.std.proofs.lemmas.List.Elements.{filter_more}
 use Rattle.std.proofs.lemmas.List.Filters.{length-filter_more}
@@ -55,13 +55,6 @@ module _ {Header Rule Row : Type 0} (k : Meaning Header Rule Row) (rules : List 
 
   pub get_or-sizes : (c : ℕ) → c < 2 ^ length bits → get_or (sizes k rules bits) c 0 ≡ length (block k rules bits c)
   get_or-sizes c h = get_or-map length (blocks k rules bits) c [] 0 (omega (arith, length-blocks)) ∙ ap length (get_or-blocks c h)
-
-  -- numbers that are each cell's size are the sizes
-  pub sizes_all : (xs : List ℕ) → 2 ^ length bits ≤ length xs → ((c : ℕ) → c < 2 ^ length bits → get_or xs c 0 ≡ length (block k rules bits c)) → take (2 ^ length bits) xs ≡ sizes k rules bits
-  sizes_all xs le each =
-      let long = length-take-le (2 ^ length bits) xs le in
-      ext_get_or 0 (take (2 ^ length bits) xs) (sizes k rules bits) (long ∙ sym length-sizes)
-      (λ c lt. let below : c < 2 ^ length bits = omega arith in get_or-take (2 ^ length bits) xs c 0 below ∙ each c below ∙ sym (get_or-sizes c below))
 
   size_few : (c : ℕ) → length (block k rules bits c) ≤ length rules
   size_few c =

@@ -1,7 +1,7 @@
 // The cells that a rule admits, found with two questions for each chosen bit.
 ghost use Rattle.std.specs.Prelude.{◌≡◌, ◌+◌, ◌^◌, ◌<◌, ◌≤◌, [], ◌∷◌, length, bit_and};
 ghost use Rattle.std.specs.Iterator.{YieldsFirst, item_count};
-ghost use Rattle.blocks.specs.Masks.{masks_of, admitted_cells};
+ghost use Rattle.blocks.specs.Masks.{admitted_cells, least, largest};
 ghost use Rattle.blocks.specs.Parts.{parts, parts_left, AreDigits, IsCellCount};
 
 use kinds::Kind;
@@ -74,44 +74,39 @@ fn following(mask: usize, gap: usize, digits: usize) -> Option<usize>
     Some((digits + gap) & mask)
 }
 
-// The least cell that a rule admits, and its free digits; or none where it admits no cell.
-// No branch on what a rule answers: neither answer is likelier, and that both values are barred is rare. Two widths, since the compiler puts two numbers of one width into a vector, which is slower here.
-fn masks<K: Kind>(rule: &K::Rule, chosen: &[u16]) -> Option<(usize, usize)>
+// The least cell that a rule admits, and the largest. Where it admits none, the first has a 1 that the second has not.
+// No branch on what the rule answers, since neither answer is likelier. Two widths, since the compiler puts two numbers of one width into a vector, which is slower here.
+#[inline(always)]
+fn ends<K: Kind>(rule: &K::Rule, chosen: &[u16]) -> (usize, usize)
     requires { length chosen.now ≤ 12 }
-    ensures { result ≡ masks_of K.meaning rule.now chosen.now }
+    ensures { result ≡ (least K.meaning rule.now chosen.now, largest K.meaning rule.now chosen.now) }
 {
     let mut least: usize = 0;
-    let mut free: u16 = 0;
-    let mut some = true;
+    let mut largest: u32 = 0;
     for bit in chosen {
         let bit = usize::from(*bit);
-        let zero = K::admits(rule, bit, false);
-        let one = K::admits(rule, bit, true);
-        some &= zero | one;
-        least = 2 * least + usize::from(!zero);
-        free = 2 * free + u16::from(zero & one);
+        least = 2 * least + usize::from(!K::admits(rule, bit, false));
+        largest = 2 * largest + u32::from(K::admits(rule, bit, true));
     }
-    if some {
-        Some((least, usize::from(free)))
-    } else {
-        None
-    }
+    (least, largest as usize)
 }
 
 // The cells that a rule admits, in rising order, by the chosen bits one by one and how many cells there are.
+#[inline(always)]
 pub(crate) fn admitted_cells<K: Kind>(rule: &K::Rule, chosen: &[u16], cells: usize) -> Admitted
     requires short { length chosen.now ≤ 12 }
     requires all { cells ≡ 2 ^ length chosen.now }
     requires few { cells ≤ 4096 }
     ensures { result ≡ admitted_cells K.meaning rule.now chosen.now }
 {
-    match masks::<K>(rule, chosen) {
-        Some((least, free)) => Admitted {
-            least,
-            free,
-            gap: cells - free,
-            next: Some(0),
-        },
-        None => Admitted::none(),
+    let (least, largest) = ends::<K>(rule, chosen);
+    let shared = least & largest;
+    let free = largest - shared;
+    let next = if shared == least { Some(0) } else { None };
+    Admitted {
+        least,
+        free,
+        gap: cells - free,
+        next,
     }
 }

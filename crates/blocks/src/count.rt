@@ -25,6 +25,8 @@ fn raise(numbers: &mut [u32], cells: Admitted, room: usize) -> Option<usize>
 }
 
 // Counts the block sizes of a plan, a number for each cell. Tells for how many more entries there is room, or none where there is too little: it stops there, and of the numbers nothing is known then.
+// Not inlined: where the compiler sees the plan made, it chooses between line and change for each number of a row by itself, which is slower by a tenth.
+#[inline(never)]
 fn count_into<K: Kind>(numbers: &mut [u32], plan: &Plan<K::Row>, room: usize) -> Option<usize>
     requires all { length numbers.old ≡ 2 ^ length plan.now.bits.now }
     requires few { length numbers.old ≤ 4096 }

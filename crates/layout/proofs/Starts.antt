@@ -12,11 +12,6 @@ module _ (ss : List ℕ) where
   pub get_or_starts : (i : ℕ) → i ≤ length ss → get_or (starts ss) i 0 ≡ sum (take i ss)
   get_or_starts i le = get_or-map-range_with_len (λ block. sum (take block ss)) 0 (length ss + 1) i i 0 (omega arith) (omega arith)
 
-  -- one start more
-  pub starts_more : (i start : ℕ) → i ≤ length ss → start ≡ sum (take i ss) → take (i + 1) (starts ss) ≡ take i (starts ss) ++ start ∷ []
-  starts_more i start le e =
-      take_more (starts ss) i 0 (omega (arith, length_starts)) ∙ ap (λ (s : ℕ). take i (starts ss) ++ s ∷ []) (get_or_starts i le ∙ sym e)
-
   -- numbers that are each block's start, and then the end of all
   pub all_starts : (xs : List ℕ) (start i : ℕ) → length xs ≡ length ss + 1 → i ≡ length ss → ((c : ℕ) → c < i → get_or xs c 0 ≡ sum (take c ss)) → start ≡ sum (take i ss) → set xs i start ≡ starts ss
   all_starts xs start i long is each end =

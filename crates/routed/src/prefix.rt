@@ -1,8 +1,7 @@
 // Address prefixes.
-ghost use Rattle.std.specs.Prelude.{◌≡◌, ◌-◌, ◌%◌, ◌^◌, ◌<◌, ◌≤◌};
+ghost use Rattle.std.specs.Prelude.{◌≡◌, ◌-◌, ◌%◌, ◌^◌, ◌<◌, ◌≤◌, ◌==◌};
 
 use super::fault::Defect;
-use kinds::digit;
 
 // The first bits of an address; the address has no one past them.
 #[derive(Clone, Copy, Debug, PartialEq, Eq)]
@@ -23,7 +22,7 @@ impl Prefix {
         if length > 32 {
             return Err(Defect::PrefixLength);
         }
-        if rest(address, length) != 0 {
+        if !is_clean(address, length) {
             return Err(Defect::StrayBit);
         }
         Ok(Prefix { address, length })
@@ -42,15 +41,19 @@ impl Prefix {
         requires { b < 32 }
         ensures { result ≡ prefix_admits self.now b value }
     {
+        let place = 31 - b;
+        let free = usize::from(32 - self.length);
+        let own = (self.address >> place) % 2 == 1;
         // `|`, which asks both: neither answer is likelier.
-        (b >= usize::from(self.length)) | (value == digit(u64::from(self.address), 31 - b))
+        (place < free) | (value == own)
     }
 }
 
-// The number that stands behind the first bits of an address.
-fn rest(address: u32, length: u8) -> u64
+// Whether an address has no one past its first bits.
+fn is_clean(address: u32, length: u8) -> bool
     requires { length ≤ 32 }
-    ensures { result ≡ address % 2 ^ (32 - length) }
+    ensures { result ≡ (address % 2 ^ (32 - length) == 0) }
 {
-    u64::from(address) & ((1u64 << (32 - length)) - 1)
+    // The first bits are moved out, and the rest is what is left of 32 bits.
+    (u64::from(address) << length) % (1 << 32) == 0
 }

@@ -1,24 +1,37 @@
-use Rattle.std.proofs.Common.{length, ◌∙◌, arith}
-use Rattle.std.specs.Int.Bits.{and_zero_l}
-use Rattle.blocks.proofs.Masks.{by_parts, none_admitted, room}
+use Rattle.std.proofs.Common.{◌≡◌, ◌+◌, ◌-◌, ◌<◌, bit_and, length, sym, subst, refl, ◌∙◌, arith}
+use Rattle.std.proofs.lemmas.Nat.{and_le_r}
+use Rattle.std.specs.Int.Bits.{and_zero_l, or_add_and}
+use Rattle.blocks.specs.Parts.{AreDigits}
+use Rattle.blocks.proofs.Masks.{room, by_parts, none_admitted}
 use Rattle.blocks.proofs.admitted.admitted_cells.Goals as goal
+use Rattle.blocks.proofs.admitted.admitted_cells.Goals.{then-shared-least, else-shared-least}
 
 pub overflow_sub-result : goal.overflow_sub-result
-overflow_sub-result g c = omega (arith, room g.K.Kind.meaning c.args.rule.now c.args.chosen.now c.masks.ensures c.in-Some.least c.in-Some.free c.in-Some.is)
+overflow_sub-result g c =
+    let ends = c.ends-least.result in
+    omega (arith, c.requires.all, room g.K.Kind.meaning c.args.rule.now c.args.chosen.now c.ends-least.ensures, or_add_and ends.0 ends.1)
 
 pub invariant_of-result : goal.invariant_of-result
 invariant_of-result g c =
-    let fits = room g.K.Kind.meaning c.args.rule.now c.args.chosen.now c.masks.ensures c.in-Some.least c.in-Some.free c.in-Some.is in
+    let ends = c.ends-least.result in
+    let free = ends.1 - bit_and ends.0 ends.1 in
+    let below : ends.0 + free < c.args.cells =
+    omega (arith, c.requires.all, room g.K.Kind.meaning c.args.rule.now c.args.chosen.now c.ends-least.ensures, or_add_and ends.0 ends.1, and_le_r ends.0 ends.1) in
     record {
-      cells = (length c.args.chosen.now, omega (arith, fits), omega (arith, fits));
-      below = omega (arith, fits);
-      digits = and_zero_l c.in-Some.free;
+      cells = (length c.args.chosen.now, omega (arith, c.requires.all, below), omega (arith, c.requires.few, below));
+      below = omega (arith, below);
+      digits = elim c.if-shared-least.branch [
+        | then-shared-least w ↦ subst (AreDigits free) (sym w.next-is) (and_zero_l free)
+        | else-shared-least w ↦ subst (AreDigits free) (sym w.next-is) tt
+      ];
     }
 
-pub returns-in-Some : goal.returns-in-Some
-returns-in-Some g c =
-    let fits = room g.K.Kind.meaning c.args.rule.now c.args.chosen.now c.masks.ensures c.in-Some.least c.in-Some.free c.in-Some.is in
-    by_parts g.K.Kind.meaning c.args.rule.now c.args.chosen.now c.masks.ensures c.in-Some.least c.in-Some.free _ c.in-Some.is (omega (arith, fits))
-
-pub returns-in-None : goal.returns-in-None
-returns-in-None g c = c.none.ensures ∙ none_admitted g.K.Kind.meaning c.args.rule.now c.args.chosen.now c.masks.ensures c.in-None.is
+pub returns : goal.returns
+returns g c =
+    let ends = c.ends-least.result in
+    let whole : ends.1 - bit_and ends.0 ends.1 + (c.args.cells - (ends.1 - bit_and ends.0 ends.1)) ≡ c.args.cells =
+    omega (arith, c.requires.all, room g.K.Kind.meaning c.args.rule.now c.args.chosen.now c.ends-least.ensures, or_add_and ends.0 ends.1) in
+    elim c.if-shared-least.branch [
+      | then-shared-least w ↦ by_parts g.K.Kind.meaning c.args.rule.now c.args.chosen.now c.ends-least.ensures _ _ refl (whole ∙ c.requires.all) w.if-shared-least.true w.next-is
+      | else-shared-least w ↦ none_admitted g.K.Kind.meaning c.args.rule.now c.args.chosen.now c.ends-least.ensures _ _ refl (whole ∙ c.requires.all) w.if-shared-least.false w.next-is
+    ]
