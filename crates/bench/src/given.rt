@@ -3,7 +3,7 @@
 ghost use Rattle.std.specs.Prelude.{◌<◌};
 
 use choice::Limits;
-use routed::{Header, Row};
+use routed::{Header, Ports, Row};
 use std::alloc::{AllocError, Global};
 
 // The rows of the lines, what is looked up, and how much the table may take.
@@ -49,8 +49,10 @@ fn header(b: &[u8; 13]) -> Header {
     Header {
         source: u32::from_be_bytes([b[0], b[1], b[2], b[3]]),
         destination: u32::from_be_bytes([b[4], b[5], b[6], b[7]]),
-        source_port: u16::from_le_bytes([b[8], b[9]]),
-        destination_port: u16::from_le_bytes([b[10], b[11]]),
+        ports: Some(Ports {
+            source: u16::from_le_bytes([b[8], b[9]]),
+            destination: u16::from_le_bytes([b[10], b[11]]),
+        }),
         protocol: b[12],
     }
 }

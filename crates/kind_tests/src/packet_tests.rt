@@ -1,6 +1,6 @@
 // Packets of RFC 791: what is read, and each refusal.
 use super::refusals::{refusal, refused};
-use routed::Header;
+use routed::{Header, Ports};
 use std::test::Fail;
 
 // A header of five words from 10.0.0.1 to 10.0.0.2, with room for an option word and ports behind it.
@@ -14,7 +14,8 @@ fn packet(first: u8, protocol: u8) -> [u8; 28] {
 fn ports(packet: &[u8]) -> Option<(u16, u16)> {
     Header::read(packet)
         .ok()
-        .map(|header| (header.source_port, header.destination_port))
+        .and_then(|header| header.ports)
+        .map(|ports| (ports.source, ports.destination))
 }
 
 #[test]
@@ -23,8 +24,13 @@ fn reads_fields(rt: HostRuntime) -> Result<(), Fail> {
     assert_eq!(rt; header.source, 0x0a00_0001);
     assert_eq!(rt; header.destination, 0x0a00_0002);
     assert_eq!(rt; header.protocol, 6);
-    assert_eq!(rt; header.source_port, 8080);
-    assert_eq!(rt; header.destination_port, 53);
+    assert_eq!(rt;
+        header.ports,
+        Some(Ports {
+            source: 8080,
+            destination: 53
+        })
+    );
     Ok(())
 }
 

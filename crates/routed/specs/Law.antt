@@ -3,14 +3,15 @@
 use Rattle.std.specs.Prelude.{◌≡◌, ℕ, ◌+◌, ◌-◌, ◌/◌, ◌%◌, ◌^◌, ◌<◌, ◌≤◌, true, nat_eq, nat_lt, refl}
 use Rattle.std.proofs.Common.{ap, sym, ◌∙◌, arith}
 use Rattle.std.proofs.lemmas.Nat.{shr-shr}
-use Rattle.std.proofs.lemmas.Bool.{eqb-true, ltb-true}
+use Rattle.std.proofs.lemmas.Bool.{and_parts, eqb-true, ltb-true}
 use Rattle.kinds.specs.Meaning.{Lawful}
 use Rattle.kinds.specs.Bits.{bit_of}
 use Rattle.kinds.proofs.Masks.{own_bit, mask_agrees}
 use Rattle.kinds.proofs.Rows.{fields_lawful}
+use Rattle.routed.specs.Packets.{port_bits}
 use Rattle.routed.specs.Prefixes.{in_prefix, prefix_admits}
 use Rattle.routed.specs.Ranges.{in_range, range_admits}
-use Rattle.routed.specs.Routed.{routed, fields}
+use Rattle.routed.specs.Routed.{fields, side_by_side, routed}
 use Rattle.routed.specs.declared.prefix.Prefix.{Prefix}
 use Rattle.routed.specs.declared.ports.PortRange.{PortRange}
 use Rattle.routed.specs.Exact.{range_decides}
@@ -31,16 +32,16 @@ prefix_agrees p n e b =
 range_agrees : (r : PortRange) (n : ℕ) → in_range r n ≡ true → (b : ℕ) → range_admits r b (bit_of 16 n b) ≡ true
 range_agrees r n e b = (range_decides r b (bit_of 16 n b)).1 (n, e, refl)
 
-pub routed_lawful : Lawful routed
-routed_lawful =
+side_by_side_lawful : Lawful side_by_side
+side_by_side_lawful =
     fields_lawful fields _ (omega arith) (omega arith) (
       (λ r h e b lt. prefix_agrees r.source h.source e b),
       (
         (λ r h e b lt. prefix_agrees r.destination h.destination e b),
         (
-          (λ r h e b lt. range_agrees r.source_ports h.source_port e b),
+          (λ r h e b lt. range_agrees r.source_ports (port_bits h).source e b),
           (
-            (λ r h e b lt. range_agrees r.destination_ports h.destination_port e b),
+            (λ r h e b lt. range_agrees r.destination_ports (port_bits h).destination e b),
             (
               (λ r h e b lt. mask_agrees 8 r.protocol.value r.protocol.mask h.protocol b e),
               tt,
@@ -49,3 +50,13 @@ routed_lawful =
         ),
       ),
     )
+
+-- a rule that matches, matches in every field
+pub routed_lawful : Lawful routed
+routed_lawful = record {
+  some_bits = side_by_side_lawful.some_bits;
+  few_bits = side_by_side_lawful.few_bits;
+  agrees = λ r h e. side_by_side_lawful.agrees r h (and_parts (side_by_side.matches r h) _ e).0;
+  zero_beyond = side_by_side_lawful.zero_beyond;
+  only_zero_beyond = side_by_side_lawful.only_zero_beyond;
+}

@@ -1,5 +1,6 @@
 -- A port range.
 --     in_range       a port lies in it
+--     is_whole       it is every port
 --     SomePort       some port in it has a value at a bit
 --     range_admits   that as a test, by trying the ports
 --     ends_admit     that as a test, by the two ends
@@ -15,6 +16,10 @@ use Rattle.routed.specs.declared.ports.PortRange.{PortRange}
 
 abbrev pub in_range : PortRange → ℕ → Bool
 in_range r port = nat_le r.low port && nat_le port r.high
+
+-- from 0 to 65,535
+abbrev pub is_whole : PortRange → Bool
+is_whole r = r.low == 0 && r.high == 65535
 
 -- some port in the range has the value v at bit b
 abbrev pub SomePort : PortRange → ℕ → Bool → Type 0

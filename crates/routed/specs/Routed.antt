@@ -1,14 +1,17 @@
 -- The routed kind: 104 bits of an IPv4 packet.
---     routed    its meaning, field by field in bit order
---     rule_in   the rule that a row holds, or why it holds none: the first field that is wrong
+--     fields         a header's numbers in bit order, with what a rule says of each
+--     side_by_side   what the fields mean together
+--     routed         the kind's meaning: that, but that a portless header is matched by whole port ranges alone
+--     rule_in        the rule that a row holds, or why it holds none: the first field that is wrong
 -- Assumes nothing.
-use Rattle.std.specs.Prelude.{List, [], ◌∷◌, Ok, Err, Result}
+use Rattle.std.specs.Prelude.{◌&&◌, ◌||◌, List, [], ◌∷◌, is_some, Ok, Err, Result}
 use Rattle.std.specs.Result.{result_ok}
 use Rattle.kinds.specs.Meaning.{Meaning}
 use Rattle.kinds.specs.Fields.{Field, field, kind_of}
 use Rattle.kinds.specs.Checks.{◌and_then◌}
+use Rattle.routed.specs.Packets.{port_bits}
 use Rattle.routed.specs.Prefixes.{prefix_of, in_prefix, prefix_admits}
-use Rattle.routed.specs.Ranges.{range_of, in_range, range_admits}
+use Rattle.routed.specs.Ranges.{range_of, in_range, is_whole, range_admits}
 use Rattle.routed.specs.Protocols.{protocol_of, is_protocol, protocol_admits}
 use Rattle.routed.specs.declared.fault.RuleField.{RuleField}
 use Rattle.routed.specs.declared.fault.RuleField.TheVariants.{Source, Destination, SourcePorts, DestinationPorts, Protocol}
@@ -23,8 +26,8 @@ abbrev pub fields : List (Field Header Rule)
 fields =
     field 32 (λ h. h.source) (λ r. r.source) in_prefix prefix_admits
     ∷ field 32 (λ h. h.destination) (λ r. r.destination) in_prefix prefix_admits
-    ∷ field 16 (λ h. h.source_port) (λ r. r.source_ports) in_range range_admits
-    ∷ field 16 (λ h. h.destination_port) (λ r. r.destination_ports) in_range range_admits
+    ∷ field 16 (λ h. (port_bits h).source) (λ r. r.source_ports) in_range range_admits
+    ∷ field 16 (λ h. (port_bits h).destination) (λ r. r.destination_ports) in_range range_admits
     ∷ field 8 (λ h. h.protocol) (λ r. r.protocol) is_protocol protocol_admits
     ∷ []
 
@@ -42,5 +45,8 @@ rule_in row =
     in_field Protocol (protocol_of row.protocol row.mask) and_then λ protocol.
     Ok (record { source = source; destination = destination; source_ports = source_ports; destination_ports = destination_ports; protocol = protocol })
 
+abbrev pub side_by_side : Meaning Header Rule Row
+side_by_side = kind_of fields (λ row. result_ok (rule_in row))
+
 abbrev pub routed : Meaning Header Rule Row
-routed = kind_of fields (λ row. result_ok (rule_in row))
+routed = record side_by_side { matches = λ r h. side_by_side.matches r h && (is_some h.ports || (is_whole r.source_ports && is_whole r.destination_ports)) }

@@ -29,8 +29,8 @@ impl Kind for Routed {
         match b {
             0..=31 => digit(u64::from(header.source), 31 - b),
             32..=63 => digit(u64::from(header.destination), 63 - b),
-            64..=79 => digit(u64::from(header.source_port), 79 - b),
-            80..=95 => digit(u64::from(header.destination_port), 95 - b),
+            64..=79 => digit(u64::from(header.port_bits().source), 79 - b),
+            80..=95 => digit(u64::from(header.port_bits().destination), 95 - b),
             96..=103 => digit(u64::from(header.protocol), 103 - b),
             _ => false,
         }
@@ -40,11 +40,14 @@ impl Kind for Routed {
         ensures answer { result ≡ routed.matches rule.now header.now }
         ensures all { rule_in Row.ALL ≡ Ok rule.now → result ≡ true }
     {
+        let ports = header.port_bits();
         rule.source.contains(header.source)
             && rule.destination.contains(header.destination)
-            && rule.source_ports.contains(header.source_port)
-            && rule.destination_ports.contains(header.destination_port)
+            && rule.source_ports.contains(ports.source)
+            && rule.destination_ports.contains(ports.destination)
             && rule.protocol.contains(header.protocol)
+            && (header.ports.is_some()
+                || (rule.source_ports.is_whole() && rule.destination_ports.is_whole()))
     }
 
     fn admits(rule: &Rule, b: usize, value: bool) -> bool

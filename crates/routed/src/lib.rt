@@ -11,7 +11,7 @@ mod rule;
 
 pub use fault::{Defect, Fault, RuleField};
 pub use kind::Routed;
-pub use packet::Header;
+pub use packet::{Header, Ports};
 pub use ports::PortRange;
 pub use prefix::Prefix;
 pub use protocol::ProtocolMatch;

@@ -1,7 +1,6 @@
 // A packet's header by RFC 791, with the ports of RFC 9293 and RFC 768, and reading it.
 ghost use Rattle.std.specs.Prelude.{◌≡◌, length, if◌then◌else◌, nat_lt, Some, None};
-ghost use Rattle.kinds.specs.Bytes.{big_endian};
-ghost use Rattle.routed.specs.Packets.{header_of, has_ports};
+ghost use Rattle.routed.specs.Packets.{header_of, has_ports, is_later_fragment, first_ports, port_bits};
 
 use super::fault::Fault;
 
@@ -9,13 +8,41 @@ const TCP: u8 = 6;
 
 const UDP: u8 = 17;
 
+// The ports of every other protocol.
+const NO_PORTS: Ports = Ports {
+    source: 0,
+    destination: 0,
+};
+
+// The two ports of a packet.
+#[derive(Clone, Copy, Debug, PartialEq, Eq)]
+pub struct Ports {
+    pub source: u16,
+    pub destination: u16,
+}
+
+impl Ports {
+    // The ports that bytes begin with.
+    fn read(bytes: &[u8]) -> Option<Ports>
+        ensures { result ≡ (if nat_lt (length bytes.now) 4 then None else Some (first_ports bytes.now)) }
+    {
+        let [a, b, c, d, ..] = bytes else {
+            return None;
+        };
+        Some(Ports {
+            source: u16::from_be_bytes([*a, *b]),
+            destination: u16::from_be_bytes([*c, *d]),
+        })
+    }
+}
+
 // What rules are compared with.
 #[derive(Clone, Copy, Debug, PartialEq, Eq)]
 pub struct Header {
     pub source: u32,
     pub destination: u32,
-    pub source_port: u16,
-    pub destination_port: u16,
+    // None where the header is portless: the packet is a later fragment of TCP or UDP, whose ports are in the first one.
+    pub ports: Option<Ports>,
     pub protocol: u8,
 }
 
@@ -32,8 +59,8 @@ impl Header {
             _,
             _,
             _,
-            _,
-            _,
+            flags,
+            offset,
             _,
             protocol,
             _,
@@ -58,18 +85,25 @@ impl Header {
         if end < 20 || end > packet.len() {
             return Err(Fault::HeaderLength);
         }
-        let (source_port, destination_port) = if has_ports(*protocol) {
-            ports(&packet[end..]).ok_or(Fault::NoPorts)?
-        } else {
-            (0, 0)
+        let later = is_later_fragment(u16::from_be_bytes([*flags, *offset]));
+        let ports = match (has_ports(*protocol), later) {
+            (false, _) => Some(NO_PORTS),
+            (true, true) => None,
+            (true, false) => Some(Ports::read(&packet[end..]).ok_or(Fault::NoPorts)?),
         };
         Ok(Header {
             source: u32::from_be_bytes([*a, *b, *c, *d]),
             destination: u32::from_be_bytes([*e, *f, *g, *h]),
-            source_port,
-            destination_port,
+            ports,
             protocol: *protocol,
         })
+    }
+
+    // The numbers in its port bits: 0 and 0 where it is portless.
+    pub(crate) fn port_bits(&self) -> Ports
+        ensures { result ≡ port_bits self.now }
+    {
+        self.ports.unwrap_or(NO_PORTS)
     }
 }
 
@@ -80,12 +114,9 @@ fn has_ports(protocol: u8) -> bool
     protocol == TCP || protocol == UDP
 }
 
-// The two ports that some bytes begin with.
-fn ports(bytes: &[u8]) -> Option<(u16, u16)>
-    ensures { result ≡ (if nat_lt (length bytes.now) 4 then None else Some (big_endian bytes.now 0 2, big_endian bytes.now 2 2)) }
+// Whether bytes 6 and 7 of a packet tell a fragment behind the first. Above the offset stand three flags.
+fn is_later_fragment(flags_and_offset: u16) -> bool
+    ensures { result ≡ is_later_fragment flags_and_offset }
 {
-    let [a, b, c, d, ..] = bytes else {
-        return None;
-    };
-    Some((u16::from_be_bytes([*a, *b]), u16::from_be_bytes([*c, *d])))
+    flags_and_offset % (1 << 13) != 0
 }

@@ -12,7 +12,7 @@ pub struct PortRange {
 }
 
 impl PortRange {
-    ghost use Rattle.routed.specs.Ranges.{range_of, in_range, ends_admit};
+    ghost use Rattle.routed.specs.Ranges.{range_of, in_range, is_whole, ends_admit};
 
     // The range of two ends, or what is wrong with them.
     pub fn new(low: u16, high: u16) -> Result<PortRange, Defect>
@@ -29,6 +29,13 @@ impl PortRange {
         ensures { result ≡ in_range self.now port }
     {
         self.low <= port && port <= self.high
+    }
+
+    // Whether every port lies in the range.
+    pub(crate) fn is_whole(&self) -> bool
+        ensures { result ≡ is_whole self.now }
+    {
+        self.low == 0 && self.high == 65535
     }
 
     // Whether some port in the range has a value at bit b, told from the two ends.

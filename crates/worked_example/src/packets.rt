@@ -85,14 +85,16 @@ fn make_lines(rt: &HostRuntime) -> io::Result<Vec<Line<Row>>> {
 }
 
 fn say_header(rt: &impl Print, header: &Header) -> io::Result<()> {
-    println!(rt;
-        "  from {} port {} to {} port {}, protocol {}",
-        Ipv4Addr::from(header.source),
-        header.source_port,
-        Ipv4Addr::from(header.destination),
-        header.destination_port,
-        header.protocol
-    )
+    let source = Ipv4Addr::from(header.source);
+    let destination = Ipv4Addr::from(header.destination);
+    let protocol = header.protocol;
+    match header.ports {
+        Some(ports) => println!(rt;
+            "  from {source} port {} to {destination} port {}, protocol {protocol}",
+            ports.source, ports.destination
+        ),
+        None => println!(rt; "  from {source} to {destination}, protocol {protocol}, portless"),
+    }
 }
 
 fn filter(rt: &impl Print, lines: &[Line<Row>], name: &str, packet: &[u8]) -> io::Result<()> {
@@ -116,6 +118,12 @@ pub(crate) fn run(rt: &HostRuntime) -> io::Result<()> {
     filter(rt, &lines, "a DNS question", samples::QUESTION)?;
     filter(rt, &lines, "an echo request", samples::PING)?;
     filter(rt, &lines, "a telnet connection", samples::TELNET)?;
+    filter(
+        rt,
+        &lines,
+        "a later fragment of a print job",
+        samples::LATER_FRAGMENT,
+    )?;
     filter(
         rt,
         &lines,
