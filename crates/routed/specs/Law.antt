@@ -39,9 +39,9 @@ side_by_side_lawful =
       (
         (λ r h e b lt. prefix_agrees r.destination h.destination e b),
         (
-          (λ r h e b lt. range_agrees r.source_ports (port_bits h).source e b),
+          (λ r h e b lt. range_agrees r.source_ports (port_bits h.ports).source e b),
           (
-            (λ r h e b lt. range_agrees r.destination_ports (port_bits h).destination e b),
+            (λ r h e b lt. range_agrees r.destination_ports (port_bits h.ports).destination e b),
             (
               (λ r h e b lt. mask_agrees 8 r.protocol.value r.protocol.mask h.protocol b e),
               tt,

@@ -25,8 +25,8 @@ abbrev pub no_ports : Ports
 no_ports = record { source = 0; destination = 0 }
 
 -- the numbers in a header's port bits: 0 and 0 where it is portless
-abbrev pub port_bits : Header → Ports
-port_bits h = unwrap_or h.ports no_ports
+abbrev pub port_bits : Option Ports → Ports
+port_bits ports = unwrap_or ports no_ports
 
 module _ (packet : List ℕ) where
   abbrev pub version : ℕ

@@ -4,7 +4,7 @@
 --     routed         the kind's meaning: that, but that a portless header is matched by whole port ranges alone
 --     rule_in        the rule that a row holds, or why it holds none: the first field that is wrong
 -- Assumes nothing.
-use Rattle.std.specs.Prelude.{◌&&◌, ◌||◌, List, [], ◌∷◌, is_some, Ok, Err, Result}
+use Rattle.std.specs.Prelude.{Bool, ◌&&◌, ◌||◌, List, [], ◌∷◌, is_some, Ok, Err, Result}
 use Rattle.std.specs.Result.{result_ok}
 use Rattle.kinds.specs.Meaning.{Meaning}
 use Rattle.kinds.specs.Fields.{Field, field, kind_of}
@@ -26,8 +26,8 @@ abbrev pub fields : List (Field Header Rule)
 fields =
     field 32 (λ h. h.source) (λ r. r.source) in_prefix prefix_admits
     ∷ field 32 (λ h. h.destination) (λ r. r.destination) in_prefix prefix_admits
-    ∷ field 16 (λ h. (port_bits h).source) (λ r. r.source_ports) in_range range_admits
-    ∷ field 16 (λ h. (port_bits h).destination) (λ r. r.destination_ports) in_range range_admits
+    ∷ field 16 (λ h. (port_bits h.ports).source) (λ r. r.source_ports) in_range range_admits
+    ∷ field 16 (λ h. (port_bits h.ports).destination) (λ r. r.destination_ports) in_range range_admits
     ∷ field 8 (λ h. h.protocol) (λ r. r.protocol) is_protocol protocol_admits
     ∷ []
 
@@ -45,8 +45,12 @@ rule_in row =
     in_field Protocol (protocol_of row.protocol row.mask) and_then λ protocol.
     Ok (record { source = source; destination = destination; source_ports = source_ports; destination_ports = destination_ports; protocol = protocol })
 
+-- both port ranges are whole
+abbrev pub takes_every_port : Rule → Bool
+takes_every_port r = is_whole r.source_ports && is_whole r.destination_ports
+
 abbrev pub side_by_side : Meaning Header Rule Row
 side_by_side = kind_of fields (λ row. result_ok (rule_in row))
 
 abbrev pub routed : Meaning Header Rule Row
-routed = record side_by_side { matches = λ r h. side_by_side.matches r h && (is_some h.ports || (is_whole r.source_ports && is_whole r.destination_ports)) }
+routed = record side_by_side { matches = λ r h. side_by_side.matches r h && (is_some h.ports || takes_every_port r) }

@@ -40,14 +40,10 @@ impl Kind for Routed {
         ensures answer { result ≡ routed.matches rule.now header.now }
         ensures all { rule_in Row.ALL ≡ Ok rule.now → result ≡ true }
     {
-        let ports = header.port_bits();
         rule.source.contains(header.source)
             && rule.destination.contains(header.destination)
-            && rule.source_ports.contains(ports.source)
-            && rule.destination_ports.contains(ports.destination)
             && rule.protocol.contains(header.protocol)
-            && (header.ports.is_some()
-                || (rule.source_ports.is_whole() && rule.destination_ports.is_whole()))
+            && rule.takes_ports(header.ports)
     }
 
     fn admits(rule: &Rule, b: usize, value: bool) -> bool

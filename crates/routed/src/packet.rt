@@ -101,7 +101,7 @@ impl Header {
 
     // The numbers in its port bits: 0 and 0 where it is portless.
     pub(crate) fn port_bits(&self) -> Ports
-        ensures { result ≡ port_bits self.now }
+        ensures { result ≡ port_bits self.now.ports }
     {
         self.ports.unwrap_or(NO_PORTS)
     }

@@ -1,8 +1,11 @@
 // A rule by its parts, each of which promises in its type what matching and admission rely on, and the plain numbers that may hold one.
-ghost use Rattle.std.specs.Prelude.{◌≡◌};
-ghost use Rattle.routed.specs.Routed.{in_field, rule_in};
+ghost use Rattle.std.specs.Prelude.{◌≡◌, true, ◌&&◌, ◌||◌, is_some};
+ghost use Rattle.routed.specs.Packets.{port_bits};
+ghost use Rattle.routed.specs.Ranges.{in_range};
+ghost use Rattle.routed.specs.Routed.{takes_every_port, in_field, rule_in};
 
 use super::fault::{Defect, Fault, RuleField};
+use super::packet::Ports;
 use super::ports::PortRange;
 use super::prefix::Prefix;
 use super::protocol::ProtocolMatch;
@@ -15,6 +18,22 @@ pub struct Rule {
     pub source_ports: PortRange,
     pub destination_ports: PortRange,
     pub protocol: ProtocolMatch,
+}
+
+impl Rule {
+    // Whether a header's ports lie in the two ranges, or, where it is portless, both ranges are whole.
+    pub(crate) fn takes_ports(&self, ports: Option<Ports>) -> bool
+        ensures answer { result ≡ (in_range self.now.source_ports (port_bits ports).source && (in_range self.now.destination_ports (port_bits ports).destination && (is_some ports || takes_every_port self.now))) }
+        ensures all { takes_every_port self.now ≡ true → result ≡ true }
+    {
+        match ports {
+            Some(ports) => {
+                self.source_ports.contains(ports.source)
+                    && self.destination_ports.contains(ports.destination)
+            }
+            None => self.source_ports.is_whole() && self.destination_ports.is_whole(),
+        }
+    }
 }
 
 // The plain numbers of a rule, one by one by a rule of the project; not all of them hold one.
