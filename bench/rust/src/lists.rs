@@ -17,12 +17,6 @@ const TCP: u8 = 6;
 const UDP: u8 = 17;
 const ICMP: u8 = 1;
 
-/// Every port.
-const ANY_PORT: Ports = Ports {
-    low: 0,
-    high: 65_535,
-};
-
 /// What the lines of a list are like.
 #[derive(Clone, Copy)]
 pub enum Mix {
@@ -208,7 +202,7 @@ impl Places {
                 self.small_range()
             }
         } else {
-            ANY_PORT
+            Ports::EVERY
         }
     }
 
@@ -235,8 +229,8 @@ impl Places {
             destination,
             source_length: 32,
             destination_length: 32,
-            source_ports: ANY_PORT,
-            destination_ports: ANY_PORT,
+            source_ports: Ports::EVERY,
+            destination_ports: Ports::EVERY,
             protocol: tcp_or_udp,
             mask: 255,
         };

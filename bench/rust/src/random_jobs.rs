@@ -449,8 +449,8 @@ impl Writer {
                     source_length: 0,
                     destination: (self.addresses[0] & cold | any & !cold) & prefix_mask(length),
                     destination_length: length,
-                    source_ports: ANY_PORTS,
-                    destination_ports: ANY_PORTS,
+                    source_ports: Ports::EVERY,
+                    destination_ports: Ports::EVERY,
                     protocol: 0,
                     mask: 0,
                 };
@@ -557,27 +557,34 @@ impl Writer {
 
     // Rules and headers.
 
+    /// Every port, nearly every port, a single one or a range.
     fn any_ports(&mut self) -> Ports {
-        match self.random.below(10) {
-            0..4 => ANY_PORTS,
-            4..7 => {
+        let (low, high) = match self.random.below(20) {
+            0..8 => (0, 65_535),
+            8 => (0, 65_534),
+            9 => (1, 65_535),
+            10 => (0, 0),
+            11..15 => {
                 let port = self.random.pick(&self.ports);
-                Ports {
-                    low: port,
-                    high: port,
-                }
+                (port, port)
             }
             _ => {
                 let [one, other] = [0, 1].map(|_| self.random.pick(&self.ports));
-                Ports {
-                    low: one.min(other),
-                    high: one.max(other),
-                }
+                (one.min(other), one.max(other))
             }
-        }
+        };
+        Ports { low, high }
     }
 
+    /// A rule of its own, or a rule of the job with other ports.
     fn routed_row(&mut self) -> routed::Row {
+        if !self.routed_rows.is_empty() && self.random.chance(20) {
+            return routed::Row {
+                source_ports: self.any_ports(),
+                destination_ports: self.any_ports(),
+                ..self.random.pick(&self.routed_rows)
+            };
+        }
         let mut row = routed::Row {
             source: self.random.pick(&self.addresses),
             destination: self.random.pick(&self.addresses),
@@ -616,7 +623,8 @@ impl Writer {
         }
     }
 
-    /// A packet that a rule of the job matches, or one from the pools; sometimes damaged.
+    /// A packet that a rule of the job matches, or one from the pools; sometimes damaged. A later
+    /// fragment has what would be its ports too, unless it ends before.
     fn packet(&mut self) -> Vec<u8> {
         let mut header = Packet {
             source: self.random.pick(&self.addresses),
@@ -644,7 +652,9 @@ impl Writer {
             5
         };
         let mut packet = self.bytes(4 * words);
+        let offset = self.fragment_offset();
         packet[0] = 64 | words as u8;
+        packet[6..8].copy_from_slice(&(self.fragment_flags() | offset).to_be_bytes());
         packet[9] = header.protocol;
         packet[12..16].copy_from_slice(&header.source.to_be_bytes());
         packet[16..20].copy_from_slice(&header.destination.to_be_bytes());
@@ -654,6 +664,10 @@ impl Writer {
         }
         let more = self.random.below(12);
         packet.extend(self.bytes(more));
+        if offset != 0 && self.random.chance(25) {
+            let behind = self.random.below(4);
+            packet.truncate(4 * words + behind);
+        }
         if self.damaged() {
             match self.random.below(4) {
                 0 => packet[0] = self.random.byte(),
@@ -669,6 +683,26 @@ impl Writer {
             }
         }
         packet
+    }
+
+    /// The low 13 bits of bytes 6 and 7: 0, or those of a later fragment.
+    fn fragment_offset(&mut self) -> u16 {
+        match self.random.below(100) {
+            0..9 => self.random.pick(&[1, 185, 256, 4_096, 8_191]),
+            9..14 => 1 << self.random.below(13),
+            14..18 => self.random.between(1, 8_191) as u16,
+            _ => 0,
+        }
+    }
+
+    /// The high 3 bits of bytes 6 and 7: none, one or any of the flags.
+    fn fragment_flags(&mut self) -> u16 {
+        let flags = match self.random.below(25) {
+            0..22 => 0,
+            22..24 => 1 << self.random.below(3),
+            _ => self.random.below(8),
+        };
+        (flags as u16) << 13
     }
 
     fn port_in(&mut self, ports: Ports) -> u16 {
@@ -735,8 +769,3 @@ impl Writer {
         frame
     }
 }
-
-const ANY_PORTS: Ports = Ports {
-    low: 0,
-    high: 65_535,
-};
