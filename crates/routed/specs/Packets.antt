@@ -1,6 +1,6 @@
 -- Reading a packet: where RFC 791 places version, header length, flags and fragment offset, protocol and addresses, and the ports behind the header.
 -- Assumes nothing.
-use Rattle.std.specs.Prelude.{ℕ, ◌+◌, ◌*◌, ◌/◌, ◌%◌, ◌^◌, Bool, if◌then◌else◌, not, ◌&&◌, ◌||◌, List, [], ◌∷◌, length, drop, Some, None, Option, Result, ◌==◌, nat_lt, slice_index, unwrap_or}
+use Rattle.std.specs.Prelude.{ℕ, ◌*◌, ◌/◌, ◌%◌, ◌^◌, Bool, if◌then◌else◌, not, ◌&&◌, ◌||◌, List, [], ◌∷◌, length, drop, Some, None, Option, Result, ◌==◌, nat_lt, slice_index, unwrap_or}
 use Rattle.kinds.specs.Bytes.{big_endian}
 use Rattle.kinds.specs.Checks.{checked}
 use Rattle.routed.specs.declared.fault.Fault.{Fault}

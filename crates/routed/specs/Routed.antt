@@ -1,7 +1,7 @@
 -- The routed kind: 104 bits of an IPv4 packet.
 --     fields         a header's numbers in bit order, with what a rule says of each
 --     side_by_side   what the fields mean together
---     routed         the kind's meaning: that, but that a portless header is matched by whole port ranges alone
+--     routed         the kind's meaning: the same, except that whole port ranges alone match a portless header
 --     rule_in        the rule that a row holds, or why it holds none: the first field that is wrong
 -- Assumes nothing.
 use Rattle.std.specs.Prelude.{Bool, ◌&&◌, ◌||◌, List, [], ◌∷◌, is_some, Ok, Err, Result}
@@ -49,8 +49,10 @@ rule_in row =
 abbrev pub takes_every_port : Rule → Bool
 takes_every_port r = is_whole r.source_ports && is_whole r.destination_ports
 
+-- a header's bits, and what a rule matches and admits, by the fields alone
 abbrev pub side_by_side : Meaning Header Rule Row
 side_by_side = kind_of fields (λ row. result_ok (rule_in row))
 
+-- a portless header has 0 for both ports, and is matched only by rules that take every port
 abbrev pub routed : Meaning Header Rule Row
 routed = record side_by_side { matches = λ r h. side_by_side.matches r h && (is_some h.ports || takes_every_port r) }

@@ -41,7 +41,7 @@ impl Ports {
 pub struct Header {
     pub source: u32,
     pub destination: u32,
-    // None where the header is portless: the packet is a later fragment of TCP or UDP, whose ports are in the first one.
+    // None of a portless header: that of a later fragment of TCP or UDP, whose ports stand in the first fragment. Of other protocols 0 and 0.
     pub ports: Option<Ports>,
     pub protocol: u8,
 }
