@@ -623,8 +623,8 @@ impl Writer {
         }
     }
 
-    /// A packet that a rule of the job matches, or one from the pools; sometimes damaged. A later
-    /// fragment has what would be its ports too, unless it ends before.
+    /// A packet that a rule of the job matches, or one from the pools; sometimes damaged. Behind a
+    /// later fragment's header stand bytes that look like ports, unless it ends before.
     fn packet(&mut self) -> Vec<u8> {
         let mut header = Packet {
             source: self.random.pick(&self.addresses),

@@ -12,14 +12,15 @@ pub struct Routed;
 const FRAGMENT_OFFSET: u16 = 0x1fff;
 
 /// A header: its fields, and whether it is portless, as that of a later fragment of TCP or UDP is.
-/// A portless header has 0 in both port fields.
+/// A portless header has 0 in both port fields; headers are made by `Packet::header` and
+/// `Routed::header` alone, which keep this.
 #[derive(Clone, Copy, Debug, PartialEq, Eq)]
 pub struct Header {
     fields: Fields,
     portless: bool,
 }
 
-/// The numbers of a header that has ports.
+/// The numbers of a header, by their names.
 #[derive(Clone, Copy, Debug, PartialEq, Eq)]
 pub struct Packet {
     pub source: u32,
@@ -427,7 +428,7 @@ mod tests {
     }
 
     #[test]
-    fn rules_for_every_port_alone_match_a_portless_header() {
+    fn only_rules_for_every_port_match_a_portless_header() {
         let ranges = [(0, 65_535), (0, 65_534), (1, 65_535), (0, 0), (53, 53)]
             .map(|(low, high)| Ports { low, high });
         for source_ports in ranges {

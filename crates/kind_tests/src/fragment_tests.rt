@@ -20,17 +20,17 @@ const ZEROS: Option<Ports> = Some(Ports {
     destination: 0,
 });
 
-// A packet whose header is followed by four bytes: the ports 8080 and 53, where it is a first fragment.
+// A packet whose header is followed by four bytes: the ports 8080 and 53, unless it is a later fragment.
 fn packet(first: u8, protocol: u8, flags_and_offset: u16) -> [u8; 24] {
-    let [flags, offset] = flags_and_offset.to_be_bytes();
+    let [high, low] = flags_and_offset.to_be_bytes();
     [
-        first, 0, 0, 24, 0, 0, flags, offset, 64, protocol, 0, 0, 10, 0, 0, 1, 10, 0, 0, 2, 0x1f,
-        0x90, 0x00, 0x35,
+        first, 0, 0, 24, 0, 0, high, low, 64, protocol, 0, 0, 10, 0, 0, 1, 10, 0, 0, 2, 0x1f, 0x90,
+        0x00, 0x35,
     ]
 }
 
 #[test]
-fn reads_ports_of_first_fragments_alone(rt: HostRuntime) -> Result<(), Fail> {
+fn reads_no_ports_of_later_fragments(rt: HostRuntime) -> Result<(), Fail> {
     let cases = [
         (UDP, 0x0000, PORTS),
         // Flags alone: a reserved one, don't fragment, more fragments, all three.
@@ -47,10 +47,15 @@ fn reads_ports_of_first_fragments_alone(rt: HostRuntime) -> Result<(), Fail> {
         (UDP, 0xf000, None),
         (TCP, 0x0001, None),
         (TCP, 0x3fff, None),
-        // Another protocol has no ports in any fragment.
+        // Another protocol has ports 0 in every fragment: those next to TCP and UDP, and one that has ports of its own.
         (ICMP, 0x0000, ZEROS),
         (ICMP, 0x0001, ZEROS),
         (ICMP, 0x3fff, ZEROS),
+        (5, 0x0001, ZEROS),
+        (7, 0x0001, ZEROS),
+        (16, 0x0001, ZEROS),
+        (18, 0x0001, ZEROS),
+        (132, 0x0001, ZEROS),
     ];
     for (protocol, flags_and_offset, ports) in cases {
         let header = Header::read(&packet(0x45, protocol, flags_and_offset))?;
@@ -67,7 +72,7 @@ fn reads_ports_of_first_fragments_alone(rt: HostRuntime) -> Result<(), Fail> {
 }
 
 #[test]
-fn refuses_fragments(rt: HostRuntime) {
+fn checks_all_but_the_ports_of_later_fragments(rt: HostRuntime) {
     let cases = [
         (0x45, TCP, 0x2000, 23, refused(4, 0)),
         (0x45, UDP, 0x2000, 23, refused(4, 0)),
@@ -123,7 +128,7 @@ fn port_bits_of_a_portless_header_are_zero(rt: HostRuntime) {
 }
 
 #[test]
-fn whole_ranges_alone_match_portless_headers(rt: HostRuntime) -> Result<(), Fail> {
+fn only_whole_ranges_match_portless_headers(rt: HostRuntime) -> Result<(), Fail> {
     // The ends of the source and the destination ports; whether a rule of these matches a portless header, and one with ports 0.
     let cases = [
         (0, 65535, 0, 65535, true, true),
@@ -147,17 +152,49 @@ fn whole_ranges_alone_match_portless_headers(rt: HostRuntime) -> Result<(), Fail
         assert_eq!(rt; Routed::matches(&rule, &header(None)), portless);
         assert_eq!(rt; Routed::matches(&rule, &header(ZEROS)), zeros);
     }
-    let other_protocol = Rule::try_from(Row {
-        protocol: TCP,
+    Ok(())
+}
+
+#[test]
+fn portless_headers_are_matched_by_addresses_and_protocol(rt: HostRuntime) -> Result<(), Fail> {
+    let here = Row {
+        source: 0x0a00_0001,
+        source_length: 32,
+        destination: 0x0a00_0000,
+        destination_length: 24,
+        protocol: UDP,
         mask: 255,
         ..Row::ALL
-    })?;
-    assert!(rt; !Routed::matches(&other_protocol, &header(None)));
-    let other_source = Rule::try_from(Row {
-        source: 0x0b00_0000,
-        source_length: 8,
-        ..Row::ALL
-    })?;
-    assert!(rt; !Routed::matches(&other_source, &header(None)));
+    };
+    let cases = [
+        (here, true),
+        (Row::ALL, true),
+        (
+            Row {
+                source: 0x0a00_0003,
+                ..here
+            },
+            false,
+        ),
+        (
+            Row {
+                destination: 0x0a00_0100,
+                ..here
+            },
+            false,
+        ),
+        (
+            Row {
+                protocol: TCP,
+                ..here
+            },
+            false,
+        ),
+    ];
+    for (row, matches) in cases {
+        let rule = Rule::try_from(row)?;
+        assert_eq!(rt; Routed::matches(&rule, &header(None)), matches, "{row:?}");
+        assert_eq!(rt; Routed::matches(&rule, &header(PORTS)), matches, "{row:?}");
+    }
     Ok(())
 }

@@ -20,13 +20,13 @@ is_later_fragment flags_and_offset = not (flags_and_offset % 2 ^ 13 == 0)
 abbrev pub first_ports : List ℕ → Ports
 first_ports bytes = record { source = big_endian bytes 0 2; destination = big_endian bytes 2 2 }
 
--- the ports of a protocol that has none
-abbrev pub no_ports : Ports
-no_ports = record { source = 0; destination = 0 }
+-- the ports of a protocol that has none, and what stands in the port bits of a portless header
+abbrev pub zero_ports : Ports
+zero_ports = record { source = 0; destination = 0 }
 
--- the numbers in a header's port bits: 0 and 0 where it is portless
+-- the numbers in a header's port bits
 abbrev pub port_bits : Option Ports → Ports
-port_bits ports = unwrap_or ports no_ports
+port_bits ports = unwrap_or ports zero_ports
 
 module _ (packet : List ℕ) where
   abbrev pub version : ℕ
@@ -43,13 +43,16 @@ module _ (packet : List ℕ) where
   abbrev pub payload : List ℕ
   payload = drop header_length packet
 
+  abbrev pub is_later : Bool
+  is_later = is_later_fragment (big_endian packet 6 2)
+
   -- whether the payload begins with ports: that of a later fragment begins with bytes from the middle of what was sent
   abbrev pub has_port_bytes : Bool
-  has_port_bytes = has_ports protocol_in && not (is_later_fragment (big_endian packet 6 2))
+  has_port_bytes = has_ports protocol_in && not is_later
 
   -- none where the packet is a later fragment of a protocol that has ports: its header is portless
   abbrev pub ports_in : Option Ports
-  ports_in = if has_port_bytes then Some (first_ports payload) else (if has_ports protocol_in then None else Some no_ports)
+  ports_in = if not (has_ports protocol_in) then Some zero_ports else (if is_later then None else Some (first_ports payload))
 
   -- the header of a packet, or why it has none
   abbrev pub header_of : Result Header Fault

@@ -35,7 +35,7 @@ pub enum Fault {
     Version,
     // The header has under five words, or ends past the last byte.
     HeaderLength,
-    // A TCP or UDP packet has under four bytes after its header.
+    // A TCP or UDP packet that is no later fragment has under four bytes after its header.
     NoPorts,
     // A row whose numbers are no rule's.
     NoRule(RuleField, Defect),

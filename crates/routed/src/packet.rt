@@ -8,8 +8,8 @@ const TCP: u8 = 6;
 
 const UDP: u8 = 17;
 
-// The ports of every other protocol.
-const NO_PORTS: Ports = Ports {
+// The ports of a packet whose protocol has none, and what stands in the port bits of a portless header.
+const ZERO_PORTS: Ports = Ports {
     source: 0,
     destination: 0,
 };
@@ -41,7 +41,7 @@ impl Ports {
 pub struct Header {
     pub source: u32,
     pub destination: u32,
-    // None of a portless header: that of a later fragment of TCP or UDP, whose ports stand in the first fragment. Of other protocols 0 and 0.
+    // None where the header is portless: that of a later fragment of TCP or UDP. Other protocols have the ports 0 and 0.
     pub ports: Option<Ports>,
     pub protocol: u8,
 }
@@ -59,8 +59,8 @@ impl Header {
             _,
             _,
             _,
-            flags,
-            offset,
+            offset_high,
+            offset_low,
             _,
             protocol,
             _,
@@ -85,9 +85,9 @@ impl Header {
         if end < 20 || end > packet.len() {
             return Err(Fault::HeaderLength);
         }
-        let later = is_later_fragment(u16::from_be_bytes([*flags, *offset]));
+        let later = is_later_fragment(u16::from_be_bytes([*offset_high, *offset_low]));
         let ports = match (has_ports(*protocol), later) {
-            (false, _) => Some(NO_PORTS),
+            (false, _) => Some(ZERO_PORTS),
             (true, true) => None,
             (true, false) => Some(Ports::read(&packet[end..]).ok_or(Fault::NoPorts)?),
         };
@@ -103,7 +103,7 @@ impl Header {
     pub(crate) fn port_bits(&self) -> Ports
         ensures { result ≡ port_bits self.now.ports }
     {
-        self.ports.unwrap_or(NO_PORTS)
+        self.ports.unwrap_or(ZERO_PORTS)
     }
 }
 
@@ -114,7 +114,7 @@ fn has_ports(protocol: u8) -> bool
     protocol == TCP || protocol == UDP
 }
 
-// Whether bytes 6 and 7 of a packet tell a fragment behind the first. Above the offset stand three flags.
+// Whether a packet with these bytes 6 and 7 is a fragment behind the first: the low 13 bits are its offset, and three flags stand above.
 fn is_later_fragment(flags_and_offset: u16) -> bool
     ensures { result ≡ is_later_fragment flags_and_offset }
 {

@@ -10,7 +10,7 @@ use super::ports::PortRange;
 use super::prefix::Prefix;
 use super::protocol::ProtocolMatch;
 
-// A rule: it matches a header that lies in every part.
+// A rule: it matches a header that lies in every part. A portless header lies in a port range only where both ranges are whole.
 #[derive(Clone, Copy, Debug, PartialEq, Eq)]
 pub struct Rule {
     pub source: Prefix,
