@@ -4,3 +4,4 @@ mod Joining
 mod Leaving
 mod Places
 pub mod Lengths
+mod Sixteens

@@ -72,6 +72,7 @@ impl Bits {
     pub fn len(&self) -> usize
         ensures answer { result ≡ length self.now }
         ensures few { result ≤ 12 }
+        ensures bits { IsBits self.now }
     {
         self.count
     }
@@ -80,6 +81,7 @@ impl Bits {
     pub fn cells(&self) -> usize
         ensures answer { result ≡ 2 ^ length self.now }
         ensures few { result ≤ 4096 }
+        ensures bits { IsBits self.now }
     {
         power(self.len())
     }
@@ -119,7 +121,8 @@ impl Bits {
 
     // All twelve places, the bits in rising order first. An array, which a loop over many lines reads faster than the set.
     pub fn places(&self) -> [u16; 12]
-        ensures { take (length self.now) result ≡ self.now }
+        ensures held { take (length self.now) result ≡ self.now }
+        ensures bits { IsBits self.now }
     {
         [
             self.b0, self.b1, self.b2, self.b3, self.b4, self.b5, self.b6, self.b7, self.b8,

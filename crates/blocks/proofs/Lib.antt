@@ -4,5 +4,3 @@ pub mod Plans
 pub mod Raising
 pub mod Sizes
 mod Counts
-mod Parts
-mod Masks

@@ -1,8 +1,10 @@
 -- A plan's lines and their rules, place by place.
-use Rattle.std.proofs.Common.{◌≡◌, ℕ, zero, suc, ◌^◌, ◌≤◌, false, List, [], ◌∷◌, length, get_or, slice_get, None, Option, filter, sum, refl, ap, ◌∙◌, arith}
+use Rattle.std.proofs.Common.{◌≡◌, ℕ, zero, suc, ◌^◌, ◌≤◌, false, List, [], ◌∷◌, length, get_or, slice_get, slice_index_or, None, Some, Option, filter, sum, refl, ap, ◌∙◌, arith}
 use Rattle.std.specs.List.{range_with_len}
 use Rattle.std.proofs.lemmas.List.{length-map}
 use Rattle.std.specs.Option.{MatchOption}
+use Rattle.std.specs.Prelude.{IfSome}
+use Rattle.kinds.specs.Values.{cells_of}
 use Rattle.kinds.specs.Meaning.{Meaning}
 use Rattle.kinds.specs.Lines.{rule_of, rules_of}
 use Rattle.kinds.specs.declared.line.Line.{Line}
@@ -33,5 +35,15 @@ module _ {Header Rule Row : Type 0} (k : Meaning Header Rule Row) (plan : Plan R
   pub length-rules_in : length (rules_in k plan) ≡ length plan.lines.now
   length-rules_in = length-map (changed plan.change plan.lines.now) (rule_of k) ∙ length-changed plan.change plan.lines.now
 
+  -- the cells of a line as such
+  pub the_cells : (line : ℕ) → cells_naming k (rules_in k plan) plan.bits.now line ≡ cells_naming k (rules_in k plan) plan.bits.now line
+  the_cells line = refl
+
   pub few_entries : 2 ^ length plan.bits.now ≤ 4096 → sum (sizes k (rules_in k plan) plan.bits.now) ≤ 2 ^ 26
   few_entries few = entries_bound k (rules_in k plan) plan.bits.now few (omega (arith, length-rules_in, plan.few))
+
+-- the cells that a kind tells of a line's rule
+pub told_naming : {Header Rule Row : Type 0} (k : Meaning Header Rule Row) (rules : List (Option Rule)) (bits chosen : List ℕ) (place : ℕ) (r : Rule) (told : Option (List ℕ)) → Some r ≡ slice_index_or rules place None → chosen ≡ bits → IfSome told (λ cells. cells ≡ cells_of (k.admits r) chosen) → IfSome told (λ cells. cells ≡ cells_naming k rules bits place)
+told_naming k rules bits chosen place r None is same e = tt
+told_naming k rules bits chosen place r (Some cells) is same e =
+    e ∙ ap (cells_of (k.admits r)) same ∙ ap (λ line. filter (admits_line k line bits) (range_with_len 0 (2 ^ length bits))) is

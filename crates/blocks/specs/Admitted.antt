@@ -1,15 +1,10 @@
--- The cells that are left of those that a rule admits: what the type `Admitted` promises, which its callers do not see.
---     cells_left   the free digits put together in every way that is left, and the other digits as they have to be
---     IsSound      least cell, free digits and gap belong to one number of cells
+-- The cells that are left of those whose blocks name a line: what the type `Admitted` tells its callers.
+--     passes        a cell is not asked for, or its values are admitted
 -- Assumes nothing.
-use Rattle.std.specs.Prelude.{ℕ, ◌+◌, ◌<◌, List, map}
-use Rattle.blocks.specs.Parts.{parts_left, AreDigits, IsCellCount}
-use Rattle.blocks.specs.declared.admitted.Admitted.TheInside.{Inside}
+use Rattle.std.specs.Prelude.{ℕ, Bool, true, List, Some, None, Option}
+use Rattle.kinds.specs.Meaning.{Meaning}
+use Rattle.kinds.specs.Values.{valued}
 
-abbrev pub cells_left : Inside → List ℕ
-cells_left a = map (λ digits. a.least + digits) (parts_left (a.free + a.gap) a.free a.next)
-
-pub record IsSound (a : Inside) : Type 0 where
-  pub cells : IsCellCount (a.free + a.gap)
-  pub below : a.least < a.gap
-  pub digits : AreDigits a.free a.next
+abbrev pub passes : {Header Rule Row : Type 0} → Meaning Header Rule Row → Option Rule → List ℕ → ℕ → Bool
+passes k None bits cell = true
+passes k (Some r) bits cell = k.admits r (valued bits cell)

@@ -1,6 +1,6 @@
 -- Blocks: which lines may match in each cell.
 --     admits_line   whether a line is in a cell's block
---     block         the block of a cell: in rising order, every filled line whose rule admits the cell
+--     block         the block of a cell: in rising order, every filled line whose rule admits the values that the cell gives to the bits
 --     cells_naming  the cells whose blocks name a line, in rising order
 --     blocks        the blocks of all cells, in cell order
 --     sizes         their lengths
@@ -10,13 +10,13 @@
 use Rattle.std.specs.Prelude.{ℕ, ◌+◌, ◌^◌, ◌≤◌, Bool, false, List, map, length, Some, None, sum, filter, Option, slice_index_or}
 use Rattle.std.specs.List.{range_with_len}
 use Rattle.kinds.specs.Meaning.{Meaning}
-use Rattle.blocks.specs.Cells.{admits_cell}
+use Rattle.kinds.specs.Values.{valued}
 
 module _ {Header Rule Row : Type 0} (k : Meaning Header Rule Row) where
   -- whether a line is filled and its rule admits the cell
   abbrev pub admits_line : Option Rule → List ℕ → ℕ → Bool
   admits_line None bits cell = false
-  admits_line (Some r) bits cell = admits_cell k r bits cell
+  admits_line (Some r) bits cell = k.admits r (valued bits cell)
 
   module _ (rules : List (Option Rule)) (bits : List ℕ) where
     abbrev pub block : ℕ → List ℕ

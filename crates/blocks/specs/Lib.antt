@@ -1,6 +1,4 @@
 pub mod Cells
-pub mod Masks
-pub mod Parts
 pub mod Admitted
 pub mod Blocks
 pub mod Changes

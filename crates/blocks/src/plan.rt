@@ -1,10 +1,10 @@
 // What a table is made of.
-ghost use Rattle.std.specs.Prelude.{◌≡◌, ◌≤◌, length, take, None, option_copied, slice_get, slice_index_or};
+ghost use Rattle.std.specs.Prelude.{◌≡◌, ◌≤◌, length, None, IfSome, option_copied, slice_get, slice_index_or};
 
-use super::admitted::{Admitted, admitted_cells};
+use super::admitted::Admitted;
 use super::change::Change;
-use bits::Bits;
-use kinds::{Kind, Line};
+use bits::{Bits, Chosen};
+use kinds::{Kind, Line, Masked};
 
 // Lines, at most 16,384, as they stand or with one of them replaced, and the chosen bits. No `==`: nothing compares plans.
 #[derive(Drop)]
@@ -12,10 +12,10 @@ pub struct Plan<'a, R> {
     pub lines: &'a [Line<R>],
     pub change: Option<Change<R>>,
     pub bits: &'a Bits,
-    // The chosen bits as an array, which is read faster for each line.
-    pub places: [u16; 12],
+    // The same as an array, which is read faster for each line.
+    pub chosen: Chosen,
+    ghost told: { chosen ≡ bits.now },
     ghost few: { length lines.now ≤ 16384 },
-    ghost told: { take (length bits.now) places ≡ bits.now },
 }
 
 impl<R: Copy> Plan<'_, R> {
@@ -42,18 +42,30 @@ impl<R: Copy> Plan<'_, R> {
         self.line(place).and_then(|line| kinds::rule_of::<K>(line))
     }
 
-    // The cells whose blocks name the line at a place, in rising order.
+    // The cells whose blocks name the line at a place, in rising order, where its kind tells them bit by bit; or none.
     // Always inlined, as what it calls: the cells are then kept in registers, and counting is faster by a tenth.
     #[inline(always)]
-    pub fn cells<K: Kind<Row = R>>(&self, place: usize) -> Admitted
+    pub fn masked<K: Kind<Row = R>>(&self, place: usize) -> Option<Masked>
+        ensures { IfSome result (λ cells. cells ≡ cells_naming K.meaning (rules_in K.meaning self.now) self.now.bits.now place) }
+    {
+        match self.rule::<K>(place) {
+            Some(rule) => K::masked(&rule, &self.chosen),
+            None => Some(Masked::none()),
+        }
+    }
+
+    // The cells whose blocks name the line at a place, in rising order.
+    #[inline(always)]
+    pub fn cells<K: Kind<Row = R>>(&self, place: usize) -> Admitted<'_, K>
         ensures { result ≡ cells_naming K.meaning (rules_in K.meaning self.now) self.now.bits.now place }
     {
         match self.rule::<K>(place) {
-            Some(rule) => {
-                let chosen = &self.places[..self.bits.len()];
-                admitted_cells::<K>(&rule, chosen, self.bits.cells())
-            }
-            None => Admitted::none(),
+            // The rule stays where it is: moved, it is slower to ask.
+            Some(rule) => match K::cells(&rule, &self.chosen) {
+                Some(cells) => Admitted::told(cells, self.bits),
+                None => Admitted::asked(rule, self.bits),
+            },
+            None => Admitted::none(self.bits),
         }
     }
 }

@@ -14,7 +14,7 @@ use super::clear::clear_from;
 use super::count::count_sizes;
 use super::plan::Plan;
 use super::refusal::{Refusal, ready};
-use bits::Bits;
+use bits::{Bits, Chosen};
 use judges::Judge;
 use kinds::{Kind, Line};
 
@@ -92,7 +92,7 @@ impl Tally<'_> {
             lines,
             change,
             bits,
-            places: bits.places(),
+            chosen: Chosen::new(bits),
         };
         self.count::<K>(&plan, room)
     }

@@ -1,1 +1,2 @@
 mod Made
+mod Exact

@@ -1,6 +1,7 @@
 // The bridge kind: a header is the first fourteen bytes of a frame, and a rule is fourteen value bytes under a mask.
 #![tactic(auto)]
 
+mod alone;
 mod fault;
 mod frame;
 mod kind;

@@ -1,11 +1,16 @@
 -- The whole choice: it is the only one, and what every choice reaches.
-use Rattle.std.proofs.Common.{◌≡◌, ℕ, ◌^◌, ◌≤◌, List, [], length, Some, None, Option, refl, sym, ◌∙◌, subst, inl, inr, arith}
+use Rattle.std.proofs.Common.{◌≡◌, ℕ, ◌^◌, ◌≤◌, false, List, [], length, get_or, Some, None, Option, refl, sym, ◌∙◌, subst, inl, inr, arith}
 use Rattle.std.proofs.Math.Pow.{pow_mono}
 use Rattle.std.proofs.lemmas.Bool.{cases_lt, lt-ltb}
-use Rattle.kinds.specs.Meaning.{Meaning}
+use Rattle.std.proofs.lemmas.Bool.Decides.{nat_tests}
+use Rattle.std.proofs.lemmas.List.{get_or_default}
+use Rattle.bits.specs.Chosen.{IsBits}
+use Rattle.bits.proofs.Members.{member_at}
+use Rattle.kinds.specs.Meaning.{Meaning, Lawful}
 use Rattle.blocks.specs.Blocks.{table_size}
 use Rattle.choice.specs.Growth.{Grown}
 use Rattle.choice.specs.Choice.{Reached, GoesThrough, no_bit, FitsIn, cost_in, IsChoice, Way, Unbettered}
+use Rattle.choice.specs.Checks.{asks_too_much}
 use Rattle.choice.specs.Offers.{offer_of}
 use Rattle.choice.specs.declared.choice.Choice.{Choice}
 use Rattle.choice.specs.declared.choice.Outcome.TheVariants.{Settled}
@@ -36,6 +41,17 @@ module _ {Header Rule Row : Type 0} (k : Meaning Header Rule Row) (rules : List 
 
   pub bits_reached : (limits : Limits) (choice : Choice) → FitsIn k rules room [] → IsChoice k rules room judge limits choice → Reached (FitsIn k rules room) k.width limits.most_bits choice.bits
   bits_reached limits choice fits is = let way = way_reached limits choice fits is in way.each choice.bits way.among
+
+  -- so they are a set of bits, where no more is asked than may be
+  pub bits_set : Lawful k → (limits : Limits) (choice : Choice) → asks_too_much k.width limits ≡ false → FitsIn k rules room [] → IsChoice k rules room judge limits choice → IsBits choice.bits
+  bits_set law limits choice allowed fits is =
+      let reached = bits_reached limits choice fits is in
+      let few : limits.most_bits ≤ 12 = grind (arith, nat_tests) in
+      record {
+        few = omega (arith, reached.few);
+        rises = reached.rises;
+        below = λ k d lt. omega (arith, law.few_bits, reached.below (get_or choice.bits k d) (member_at (get_or choice.bits k d) choice.bits k lt (get_or_default choice.bits k 0 d lt)));
+      }
 
   pub few_tries : (limits : Limits) (choice : Choice) → IsChoice k rules room judge limits choice → choice.tries ≤ limits.most_tries
   few_tries limits choice is = evolved_few (FitsIn k rules room) (cost_in k rules judge) k.width is.evolves

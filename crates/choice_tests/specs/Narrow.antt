@@ -1,6 +1,7 @@
 -- A kind whose headers have two bits, and whose rules match one header each. Assumes nothing.
 use Rattle.std.specs.Prelude.{ℕ, Bool, false, ◌==◌, ◌&&◌, not, if◌then◌else◌, Some}
 use Rattle.kinds.specs.Meaning.{Meaning}
+use Rattle.kinds.specs.Values.{each}
 use Rattle.choice_tests.specs.declared.narrow.Pair.{Pair}
 
 abbrev pub same : Bool → Bool → Bool
@@ -14,6 +15,6 @@ narrow = record {
   width = 2;
   bit = pair_bit;
   matches = λ rule header. same rule.first header.first && same rule.second header.second;
-  admits = λ rule b value. same (pair_bit rule b) value;
+  admits = λ rule asked. each (λ b value. same (pair_bit rule b) value) asked;
   holds = λ row. Some row;
 }

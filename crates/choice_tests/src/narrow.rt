@@ -1,14 +1,24 @@
 // A kind whose headers have two bits: a rule matches one header.
-ghost use Rattle.choice_tests.specs.Narrow.{narrow};
+ghost use Rattle.choice_tests.specs.Narrow.{narrow, same, pair_bit};
 ghost use Rattle.choice_tests.specs.Law.{narrow_lawful};
 
-use kinds::Kind;
+use bits::Bits;
+use kinds::{Alone, Kind, admits_each};
 
 // The two bits of a header, and what a rule and a row are.
 #[derive(Clone, Copy, Debug, PartialEq, Eq)]
 pub struct Pair {
     pub first: bool,
     pub second: bool,
+}
+
+// At each bit its own value alone.
+impl Alone for Pair {
+    ghost alone = { λ rule b value. same (pair_bit rule b) value };
+
+    fn admits_alone(&self, b: usize, value: bool) -> bool {
+        Narrow::bit(self, b) == value
+    }
 }
 
 pub struct Narrow;
@@ -40,8 +50,8 @@ impl Kind for Narrow {
         rule.first == header.first && rule.second == header.second
     }
 
-    fn admits(rule: &Pair, b: usize, value: bool) -> bool {
-        Self::bit(rule, b) == value
+    fn admits(rule: &Pair, bits: &Bits, cell: usize) -> bool {
+        admits_each(rule, bits, cell)
     }
 
     fn rule(row: &Pair) -> Option<Pair> {

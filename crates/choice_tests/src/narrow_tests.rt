@@ -1,6 +1,8 @@
 // Choices for headers of two bits, where all sets can be counted by hand.
 use super::narrow::{Narrow, Pair};
 use super::told::{Told, told};
+use bits::Bits;
+use blocks::Tally;
 use choice::{Limits, Outcome, Refusal};
 use judges::Largest;
 use kinds::Line;
@@ -59,6 +61,21 @@ fn settles_where_no_exchange_is_possible(rt: HostRuntime) {
     assert_eq!(rt; no_bit, Ok((0, 0, 0, 0, Outcome::Settled)));
     let no_line = choose(&[], 2, (2, 9), &mut tally);
     assert_eq!(rt; no_line, Ok((0, 0, 0, 0, Outcome::Settled)));
+}
+
+// The kind tells no cells, so each is asked for.
+#[test]
+fn each_line_stands_in_its_own_cell(rt: HostRuntime) {
+    let bits = Bits::none();
+    let bits = bits.with(0).unwrap_or(bits);
+    let bits = bits.with(1).unwrap_or(bits);
+    let mut numbers = [9u32; 4];
+    let mut tally = Tally::new(&mut numbers);
+    let too_few = tally.fits::<Narrow>(&all(), None, &bits, 8);
+    assert_eq!(rt; too_few, Err(blocks::Refusal::NoRoom));
+    let enough = tally.fits::<Narrow>(&all(), None, &bits, 9);
+    assert_eq!(rt; enough, Ok(()));
+    assert_eq!(rt; tally.sizes(&bits), &[1u32; 4][..]);
 }
 
 #[test]

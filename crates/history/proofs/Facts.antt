@@ -1,12 +1,13 @@
 -- What holds after every history.
 use Rattle.std.proofs.Common.{◌≡◌, ℕ, List, [], ◌++◌, length, Ok, Err, Option, Result, not, eqb, sym, refl, ap, ap₂, ◌∙◌, subst, arith}
 use Rattle.std.proofs.lemmas.Bool.{ltb-false, or_parts}
+use Rattle.bits.specs.Chosen.{IsBits}
 use Rattle.kinds.specs.Meaning.{Meaning, Lawful}
 use Rattle.kinds.specs.Lines.{rules_of}
 use Rattle.blocks.specs.Blocks.{table_size, Fits}
 use Rattle.choice.specs.Choice.{FitsIn, IsChoice}
 use Rattle.choice.specs.declared.choice.Choice.{Choice}
-use Rattle.choice.proofs.Whole.{only_choice, bits_reached, few_tries, settled_unbettered}
+use Rattle.choice.proofs.Whole.{only_choice, bits_reached, bits_set, few_tries, settled_unbettered}
 use Rattle.layout.specs.Layout.{laid}
 use Rattle.layout.proofs.Laid.{length_laid}
 use Rattle.table.specs.Checks.{verdict, memory_checks, lines_checks, room_checks, choice_checks}
@@ -43,18 +44,20 @@ module _ {Header Rule Row : Type 0} (k : Meaning Header Rule Row) where
     pub plain : plain_of k first ≡ record { rules = rules_of k start.lines; bits = choice.bits }
     pub certified : Certified k (rules_of k start.lines) start.room start.asked choice
 
-  pub made_is : (start : Start Row) (choice : Choice) (first : Moment Row) → Made k start choice first → IsMade start choice first
-  made_is start choice first made =
+  pub made_is : Lawful k → (start : Start Row) (choice : Choice) (first : Moment Row) → Made k start choice first → IsMade start choice first
+  made_is law start choice first made =
       let rules = rules_of k start.lines in
       let lines = length start.lines in
       let area = length made.area in
       let measured = did _ _ _ _ (verdict (lines_checks made.opened lines ++ choice_checks k rules start.asked.limits (length made.measuring_found) start.room)) (made.measured, choice) made.measures in
       let laid_so = did _ _ _ _ (verdict (memory_checks made.measured lines area ++ room_checks k rules made.measured.bits (length made.laying_found) area)) first.table made.lays in
-      let none = ltb-false start.room (table_size k rules []) (all_pass (lines_checks made.opened lines ++ choice_checks k rules start.asked.limits (length made.measuring_found) start.room) measured.0).1.1.1.0 in
+      let allowed = all_pass (lines_checks made.opened lines ++ choice_checks k rules start.asked.limits (length made.measuring_found) start.room) measured.0 in
+      let none = ltb-false start.room (table_size k rules []) allowed.1.1.1.0 in
       let passed = all_pass (memory_checks made.measured lines area ++ room_checks k rules made.measured.bits (length made.laying_found) area) laid_so.0 in
       let own = or_parts (not (eqb lines made.measured.lines)) (not (eqb area made.measured.area)) passed.0 in
       let fits : Fits k rules made.measured.bits area = ltb-false area (table_size k rules made.measured.bits) passed.1.1.0 in
       let table : first.table ≡ made.measured = laid_so.1.shape in
+      let bits : first.table.bits ≡ choice.bits = ap (λ (t : Shape). t.bits) table ∙ measured.1.table.bits in
       let is_laid : first.area ≡ laid k rules made.measured.bits area = laid_so.1.area in
       let long : length first.area ≡ area = ap length is_laid ∙ length_laid k rules made.measured.bits area fits in
       record {
@@ -62,9 +65,10 @@ module _ {Header Rule Row : Type 0} (k : Meaning Header Rule Row) where
           lines = ap length laid_so.1.lines ∙ same_length lines made.measured.lines own.0 ∙ ap (λ (t : Shape). t.lines) (sym table);
           area = long ∙ same_length area made.measured.area own.1 ∙ ap (λ (t : Shape). t.area) (sym table);
           long = long ∙ made.long;
+          bits = subst IsBits (sym bits) (bits_set k rules start.room start.asked.judge law start.asked.limits choice allowed.1.0 none measured.1.choice);
           is_laid = is_laid ∙ ap₂ (λ ls (t : Shape). laid k (rules_of k ls) t.bits area) (sym laid_so.1.lines) (sym table) ∙ ap (laid k (rules_of k first.lines) first.table.bits) made.long;
         };
-        plain = ap₂ (λ ls bits. record { rules = rules_of k ls; bits = bits }) laid_so.1.lines (ap (λ (t : Shape). t.bits) table ∙ measured.1.table.bits);
+        plain = ap₂ (λ ls bits. record { rules = rules_of k ls; bits = bits }) laid_so.1.lines bits;
         certified = certify rules start.room start.asked choice none measured.1.choice;
       }
 
@@ -97,14 +101,14 @@ module _ {Header Rule Row : Type 0} (k : Meaning Header Rule Row) where
 
   pub facts_of_all : Lawful k → FactsOfAll k
   facts_of_all law start choice turns answers last h =
-      let made = made_is start choice h.first h.made in
+      let made = made_is law start choice h.first h.made in
       let kept = lives_kept law start.room made.stands h.lived in
       record {
         plain = subst (λ p. Tells k start.room p turns answers (plain_of k last)) made.plain kept.1;
         lowest = stands_finds k law start.room last kept.0;
         canonical = record { long = kept.0.long; area = stands_laid k start.room last kept.0 };
         independent = λ other_start other_choice other_turns other_answers other o room same.
-            let other_made = made_is other_start other_choice o.first o.made in
+            let other_made = made_is law other_start other_choice o.first o.made in
             let other_kept : Stands k start.room other = subst (λ n. Stands k n other) room (lives_kept law other_start.room other_made.stands o.lived).0 in (
               other_kept.is_laid ∙ ap (λ (p : Plain Rule). laid k p.rules p.bits start.room) same ∙ sym kept.0.is_laid,
               λ further ones others end other_end here there.

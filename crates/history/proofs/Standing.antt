@@ -2,6 +2,7 @@
 use Rattle.std.proofs.Common.{◌≡◌, ℕ, false, List, length, Ok, Err, Option, Result, not, eqb, slice_set, sym, refl, ap, ◌∙◌, subst}
 use Rattle.std.proofs.lemmas.Bool.{eq-eqb, eqb-true, not-false}
 use Rattle.std.proofs.lemmas.List.{length-set}
+use Rattle.bits.specs.Chosen.{IsBits}
 use Rattle.kinds.specs.Meaning.{Meaning, Lawful}
 use Rattle.kinds.specs.Checks.{◌and_then◌}
 use Rattle.kinds.specs.Lines.{rule_of, rules_of}
@@ -29,6 +30,7 @@ module _ {Header Rule Row : Type 0} (k : Meaning Header Rule Row) where
     pub lines : length m.lines ≡ m.table.lines
     pub area : length m.area ≡ m.table.area
     pub long : length m.area ≡ room
+    pub bits : IsBits m.table.bits
     pub is_laid : m.area ≡ laid k (rules_of k m.lines) m.table.bits room
 
   -- memory of the table's own lengths passes
@@ -49,7 +51,7 @@ module _ {Header Rule Row : Type 0} (k : Meaning Header Rule Row) where
       let found = looked_up k rules m.table.bits h m.area in
       let own = own_memory m.table (length m.lines) (length m.area) s.lines s.area in
       subst (λ (v : Result (Unit {0}) Refusal). FindsLowest k rules m.table.bits h (told (at 0) (v and_then λ _. of_spoilt found))) (sym own)
-      (finds_told law rules m.table.bits h found (finds_lowest k rules m.table.bits m.area h (stands_laid room m s) law found refl))
+      (finds_told law rules m.table.bits h found (finds_lowest k rules m.table.bits m.area h (stands_laid room m s) law s.bits found refl))
 
   -- the rules of lines of which one was replaced
   pub replaced_rules : (line : ℕ) (IsNew : Line Row → Type 0) (found left : List (Line Row)) (o : Option Rule) → ((new : Line Row) → IsNew new → rule_of k new ≡ o) → Replaced line IsNew found left → rules_of k left ≡ slice_set (rules_of k found) line o
@@ -61,9 +63,9 @@ module _ {Header Rule Row : Type 0} (k : Meaning Header Rule Row) where
   -- what is left where some lines were laid for a table
   pub relaid_stands : (room : ℕ) (found left : Moment Row) → Stands room found
       → length left.lines ≡ length found.lines → left.table.lines ≡ found.table.lines → left.table.area ≡ found.table.area
-      → left.area ≡ laid_for k left.table left.lines found.area → Fits k (rules_of k left.lines) left.table.bits room
+      → IsBits left.table.bits → left.area ≡ laid_for k left.table left.lines found.area → Fits k (rules_of k left.lines) left.table.bits room
       → Stands room left
-  relaid_stands room found left s many lines area is fits =
+  relaid_stands room found left s many lines area bits is fits =
       let is_laid : left.area ≡ laid k (rules_of k left.lines) left.table.bits room = is ∙ ap (laid k (rules_of k left.lines) left.table.bits) s.long in
       let long : length left.area ≡ room = ap length is_laid ∙ length_laid k (rules_of k left.lines) left.table.bits room fits in
-      record { lines = many ∙ s.lines ∙ sym lines; area = long ∙ sym s.long ∙ s.area ∙ sym area; long = long; is_laid = is_laid }
+      record { lines = many ∙ s.lines ∙ sym lines; area = long ∙ sym s.long ∙ s.area ∙ sym area; long = long; bits = bits; is_laid = is_laid }

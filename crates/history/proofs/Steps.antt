@@ -1,13 +1,14 @@
 -- One call on a table that stands: it leaves a table that stands, and the plain book says the same.
 use Rattle.std.proofs.Common.{◌≡◌, ℕ, Bool, List, [], ◌++◌, length, Some, None, Ok, Err, Option, Result, IfErr, slice_set, sym, refl, ap, ap₂, ◌∙◌, subst, inl, inr}
 use Rattle.std.proofs.lemmas.Bool.{ltb-false}
+use Rattle.bits.specs.Chosen.{IsBits}
 use Rattle.kinds.specs.Meaning.{Meaning, Lawful}
 use Rattle.kinds.specs.Lines.{rules_of}
 use Rattle.kinds.specs.declared.line.Line.{Line}
 use Rattle.blocks.specs.Blocks.{table_size, Fits}
 use Rattle.choice.specs.Choice.{IsChoice}
 use Rattle.choice.specs.declared.choice.Choice.{Choice}
-use Rattle.choice.proofs.Whole.{bits_reached}
+use Rattle.choice.proofs.Whole.{bits_reached, bits_set}
 use Rattle.layout.specs.LookUp.{FindsLowest}
 use Rattle.table.specs.Refusals.{at}
 use Rattle.table.specs.Checks.{verdict, memory_checks, put_checks, strike_checks, room_checks, choice_checks}
@@ -65,7 +66,7 @@ module _ {Header Rule Row : Type 0} (k : Meaning Header Rule Row) (room : ℕ) w
         → Relaid k found.table (lending found before) (lending left after) line IsNew
         → Stands k room left × (plain_of k left ≡ with_rule (plain_of k found) line o)
     changed s table rules_are fits r = (
-      relaid_stands k room found left s (replaced_length k line IsNew found.lines left.lines r.lines) (ap (λ (t : Shape). t.lines) table) (ap (λ (t : Shape). t.area) table)
+      relaid_stands k room found left s (replaced_length k line IsNew found.lines left.lines r.lines) (ap (λ (t : Shape). t.lines) table) (ap (λ (t : Shape). t.area) table) (subst (λ (t : Shape). IsBits t.bits) (sym table) s.bits)
           (r.area ∙ ap (λ (t : Shape). laid_for k t left.lines found.area) (sym table))
           (subst (λ rs. Fits k rs left.table.bits room) (sym rules_are) (subst (λ (t : Shape). Fits k (slice_set (rules_of k found.lines) line o) t.bits room) (sym table) fits)),
       ap₂ (λ rs (t : Shape). record { rules = rs; bits = t.bits }) rules_are table,
@@ -109,20 +110,22 @@ module _ {Header Rule Row : Type 0} (k : Meaning Header Rule Row) (room : ℕ) w
     err_kept (Ok _) fault P p is = absurd (err_ok (sym is))
     err_kept (Err _) fault P p is = p
 
-    choose_kept : (asked : Asked (List ℕ → ℕ)) (result : Result Choice Fault) → ChoosesAnew k found.table (lending found before) (lending left after) asked.judge asked.limits left.table result → Kept found tally (Choose asked) (of_choice result) left
-    choose_kept asked result call =
+    choose_kept : Lawful k → (asked : Asked (List ℕ → ℕ)) (result : Result Choice Fault) → ChoosesAnew k found.table (lending found before) (lending left after) asked.judge asked.limits left.table result → Kept found tally (Choose asked) (of_choice result) left
+    choose_kept law asked result call =
         let rules = rules_of k found.lines in
         let same = same_verdict found tally before (λ t n. choice_checks k rules asked.limits t n) s long in
         elim (cases (at 0) (Anew k found.table (lending found before) (lending left after) asked.judge asked.limits left.table) (lending found before) (lending left after) _ result call.answers) [
           | inl did ↦ (
               let passed = sym same ∙ did.passed in
-              let none = ltb-false room (table_size k rules []) (all_pass (plain_checks k room (plain_of k found) tally (Choose asked)) passed).1.1.0 in
+              let allowed = all_pass (plain_checks k room (plain_of k found) tally (Choose asked)) passed in
+              let none = ltb-false room (table_size k rules []) allowed.1.1.0 in
               let choice : IsChoice k rules room asked.judge asked.limits did.answer = subst (λ (n : ℕ). IsChoice k rules n asked.judge asked.limits did.answer) s.long did.does.choice in
               let reached = bits_reached k rules room asked.judge asked.limits did.answer none choice in
+              let bits = subst IsBits (sym did.does.shape.bits) (bits_set k rules room asked.judge law asked.limits did.answer allowed.0 none choice) in
               let fits : Fits k (rules_of k left.lines) left.table.bits room = subst (λ bits. Fits k (rules_of k left.lines) bits room) (sym did.does.shape.bits) (subst (λ ls. Fits k (rules_of k ls) did.answer.bits room) (sym did.does.lines) reached.fits) in
               let area = did.does.area ∙ ap (λ ls. laid_for k left.table ls found.area) (sym did.does.lines) in
               record {
-                stands = relaid_stands k room found left s (ap length did.does.lines) did.does.shape.lines did.does.shape.area area fits;
+                stands = relaid_stands k room found left s (ap length did.does.lines) did.does.shape.lines did.does.shape.area bits area fits;
                 says = says_as {q = with_bits (plain_of k found) did.answer.bits} (ap of_choice did.is) (ap₂ (λ ls bits. record { rules = rules_of k ls; bits = bits }) did.does.lines did.does.shape.bits) (Says.chooses passed choice);
               })
           | inr was ↦ kept_as (ap of_choice was.is) (refused found left tally before after (Choose asked) was.refusal s (err_kept result (at 0 was.refusal) (left.table ≡ found.table) call.kept was.is) was.kept (sym same ∙ was.failed))
@@ -136,5 +139,5 @@ module _ {Header Rule Row : Type 0} (k : Meaning Header Rule Row) (room : ℕ) w
   pub step_kept : Lawful k → {found left : Moment Row} {tally : ℕ} {call : AnyCall Rule Header} {answer : Answer} → Stands k room found → Step k found tally call answer left → Kept found tally call answer left
   step_kept law {found} {left} {tally} s (Step.puts {line} {rule} before after result long table call) = put_kept found left tally before after s long line rule result table call
   step_kept law {found} {left} {tally} s (Step.strikes {line} before after result long table call) = strike_kept found left tally before after s long line result table call
-  step_kept law {found} {left} {tally} s (Step.chooses {asked} before after result long call) = choose_kept found left tally before after s long asked result call
+  step_kept law {found} {left} {tally} s (Step.chooses {asked} before after result long call) = choose_kept found left tally before after s long law asked result call
   step_kept law {found} {tally = tally} s (Step.looks {header}) = look_kept law found tally header s (looks_up k found.table header found.lines found.area) (stands_finds k law room found s header)

@@ -151,7 +151,7 @@ module _ {Header Rule Row K : Type 0} (k : Meaning Header Rule Row) (law : Lawfu
       made : (after : Filter K) (answer : Result Answer Fault) → IsMade k m left book asked after answer → StepKept m left p (Ok (Choose asked)) after answer
       made (Laid table) (Ok (Chosen choice)) d =
           let does = did (at 0) (λ (x : Shape × Choice). TableMade k book.lines asked m left x.0 x.1) m left _ (table.shape, choice) d in
-          let is = made_is k (start_of k book.lines asked m left) choice (moment table.shape left.lines left.area) does.1.made in
+          let is = made_is k law (start_of k book.lines asked m left) choice (moment table.shape left.lines left.area) does.1.made in
           let bits : Plain Rule = record { rules = rules_of k m.lines; bits = choice.bits } in
           record {
             next = laid bits;

@@ -2,6 +2,8 @@
 #![tactic(auto)]
 
 #[cfg(test)]
+mod admission_tests;
+#[cfg(test)]
 mod bridge_tests;
 #[cfg(test)]
 mod fragment_tests;

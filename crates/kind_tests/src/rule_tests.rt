@@ -1,9 +1,6 @@
-// Routed rules: the limits of each field, each refusal with its place, and what port ranges admit.
+// Routed rules: the limits of each field, and each refusal with its place.
 use super::refusals::{refusal, refused};
-use kinds::Kind;
-use routed::{Fault, Routed, Row, Rule};
-use std::array;
-use std::test::Fail;
+use routed::{Row, Rule};
 
 fn prefixes(source: u32, source_length: u8, destination: u32, destination_length: u8) -> Row {
     Row {
@@ -104,41 +101,4 @@ fn refuses_ranges_and_protocols(rt: HostRuntime) {
         refused(8, 5),
         "the mask comes before the bit outside it"
     );
-}
-
-// At each of the sixteen bits of the destination ports, the first most significant: 0 or 1 alone, or 2 for both.
-// Numbers and no enum, so that sixteen of them read as one row.
-fn admitted(low: u16, high: u16) -> Result<[u8; 16], Fault> {
-    let rule = Rule::try_from(ports(0, 65535, low, high))?;
-    Ok(array::from_fn(|b| {
-        let zero = Routed::admits(&rule, 80 + b, false);
-        let one = Routed::admits(&rule, 80 + b, true);
-        match (zero, one) {
-            (true, true) => 2,
-            (true, false) => 0,
-            (false, true) => 1,
-            (false, false) => 3,
-        }
-    }))
-}
-
-#[test]
-fn admits_by_range(rt: HostRuntime) -> Result<(), Fail> {
-    let all = admitted(0, 65535)?;
-    assert_eq!(rt; all, [2, 2, 2, 2, 2, 2, 2, 2, 2, 2, 2, 2, 2, 2, 2, 2]);
-    let two = admitted(1, 2)?;
-    assert_eq!(rt; two, [0, 0, 0, 0, 0, 0, 0, 0, 0, 0, 0, 0, 0, 0, 2, 2]);
-    let one = admitted(5, 5)?;
-    assert_eq!(rt; one, [0, 0, 0, 0, 0, 0, 0, 0, 0, 0, 0, 0, 0, 1, 0, 1]);
-    Ok(())
-}
-
-#[test]
-fn admits_zero_beyond_the_width(rt: HostRuntime) -> Result<(), Fail> {
-    let rule = Rule::try_from(Row::ALL)?;
-    assert_eq!(rt; Routed::width(), 104);
-    assert!(rt; Routed::admits(&rule, 103, true));
-    assert!(rt; Routed::admits(&rule, 104, false));
-    assert!(rt; !Routed::admits(&rule, 104, true));
-    Ok(())
 }

@@ -1,7 +1,13 @@
+pub mod Bits
+pub mod Values
 pub mod Meaning
 pub mod Lines
-pub mod Bits
 pub mod Fields
+pub mod Masks
+pub mod Parts
+pub mod Masked
+pub mod Spans
+pub mod Cells
 pub mod Bytes
 pub mod Checks
 pub mod Codes

@@ -1,6 +1,7 @@
 -- Looking into a laid area: the header's block is found there, and its walk answers the lowest line.
 use Rattle.std.proofs.Common.{◌≡◌, ℕ, ◌+◌, ◌-◌, ◌^◌, ◌<◌, cond, ltb, List, length, get_or, take, drop, Ok, Err, Option, Result, sym, ap, ◌∙◌, subst, ap₂, arith}
 use Rattle.std.proofs.lemmas.Bool.{cond-false, le-ltb}
+use Rattle.bits.specs.Chosen.{IsBits}
 use Rattle.kinds.specs.Meaning.{Meaning, Lawful}
 use Rattle.kinds.specs.Checks.{◌and_then◌}
 use Rattle.blocks.specs.Cells.{cell_of}
@@ -37,7 +38,7 @@ module _ {Header Rule Row : Type 0} (k : Meaning Header Rule Row) (rules : List 
   pub never_bad : (spoilt : Spoilt) → block_in (length bits) area (cell_of k bits h) ≡ Err spoilt → ⊥
   never_bad spoilt is = cc block_found
 
-  pub finds_lowest : Lawful k → (answer : Result (Option ℕ × ℕ) Spoilt) → answer ≡ looked_up k rules bits h area → FindsLowest k rules bits h answer
-  finds_lowest law answer is =
-      let walked_block : FindsLowest k rules bits h (looked_up k rules bits h area) = subst (λ (x : Result (List ℕ) Spoilt). FindsLowest k rules bits h (x and_then walked k rules h 0)) (sym block_found) (answered k law rules bits h) in
+  pub finds_lowest : Lawful k → IsBits bits → (answer : Result (Option ℕ × ℕ) Spoilt) → answer ≡ looked_up k rules bits h area → FindsLowest k rules bits h answer
+  finds_lowest law set answer is =
+      let walked_block : FindsLowest k rules bits h (looked_up k rules bits h area) = subst (λ (x : Result (List ℕ) Spoilt). FindsLowest k rules bits h (x and_then walked k rules h 0)) (sym block_found) (answered k law rules bits set h) in
       subst (FindsLowest k rules bits h) (sym is) walked_block

@@ -3,6 +3,7 @@ use Rattle.std.proofs.Common.{◌≡◌, ℕ, zero, suc, ◌+◌, ◌<◌, ◌�
 use Rattle.std.specs.List.{range_with_len}
 use Rattle.std.proofs.lemmas.List.{get_or_past}
 use Rattle.std.proofs.lemmas.Bool.{cases_Bool, cases_lt, cases_order, cond-true, cond-false, both_ways, false≢true}
+use Rattle.bits.specs.Chosen.{IsBits}
 use Rattle.kinds.specs.Meaning.{Meaning, Lawful}
 use Rattle.kinds.specs.Lines.{matches_at, Matches, Lowest}
 use Rattle.judges.specs.Costs.{largest}
@@ -67,7 +68,7 @@ module _ {Header Rule Row : Type 0} (k : Meaning Header Rule Row) (rules : List 
         tried_one : (r : Rule) → get_or rules a None ≡ Some r → Walk (a + 1) n (t + 1) (filter p (range_with_len (a + 1) n)) → Walk a (suc n) t (a ∷ filter p (range_with_len (a + 1) n))
         tried_one r is w = ⊎_elim (λ match. hit a n t (filter p (range_with_len (a + 1) n)) r is match) (λ no_match. missed a n t (filter p (range_with_len (a + 1) n)) r is no_match w) (cases_Bool (k.matches r h))
 
-module _ {Header Rule Row : Type 0} (k : Meaning Header Rule Row) (law : Lawful k) (rules : List (Option Rule)) (bits : List ℕ) (h : Header) where
+module _ {Header Rule Row : Type 0} (k : Meaning Header Rule Row) (law : Lawful k) (rules : List (Option Rule)) (bits : List ℕ) (set : IsBits bits) (h : Header) where
   abbrev cell : ℕ
   cell = cell_of k bits h
 
@@ -78,7 +79,7 @@ module _ {Header Rule Row : Type 0} (k : Meaning Header Rule Row) (law : Lawful 
   -- by the law, a line that matches is in the block of the header's own cell
   kept_own : (o : Option Rule) → matches_at k o h ≡ true → admits_line k o bits cell ≡ true
   kept_own None match = match
-  kept_own (Some r) match = admits_own k law r h match bits
+  kept_own (Some r) match = admits_own k law r h match bits set
 
   never_past : (m : ℕ) → length rules ≤ m → Matches k rules h m → ⊥
   never_past m past match = false≢true (sym (ap (λ o. matches_at k o h) (get_or_past rules m None past)) ∙ match)

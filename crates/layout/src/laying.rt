@@ -10,7 +10,7 @@ ghost use Rattle.blocks.specs.Plans.{rules_in};
 ghost use Rattle.layout.specs.Layout.{starts as starts_of, laid};
 
 use super::entries::write_blocks;
-use bits::Bits;
+use bits::{Bits, Chosen};
 use blocks::{Change, Plan, Refusal, Tally};
 use kinds::{Kind, Line};
 
@@ -77,7 +77,7 @@ pub fn lay<K: Kind>(
         lines,
         change,
         bits,
-        places: bits.places(),
+        chosen: Chosen::new(bits),
     };
     write_table::<K>(&plan, guard.cells, area);
     Ok(())

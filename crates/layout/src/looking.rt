@@ -1,5 +1,6 @@
 // Looking into an area of any content: a header's block, and the walk through it.
 ghost use Rattle.std.specs.Prelude.{◌≡◌, List, length, None, Ok, Option, slice_index_or};
+ghost use Rattle.bits.specs.Chosen.{IsBits};
 ghost use Rattle.kinds.specs.Lines.{rules_of};
 ghost use Rattle.blocks.specs.Cells.{cell_of};
 ghost use Rattle.blocks.specs.Blocks.{block as block_of};
@@ -18,6 +19,7 @@ pub fn block<'a, K: Kind>(
 ) -> Result<&'a [u32], Spoilt>
     ensures answer { Hands (block_in (length bits.now) area.now (cell_of K.meaning bits.now header.now)) result }
     ensures facts { (rules : List (Option _)) → area.now ≡ laid K.meaning rules bits.now (length area.now) → Hands (Ok (block_of K.meaning rules bits.now (cell_of K.meaning bits.now header.now))) result }
+    ensures bits { IsBits bits.now }
 {
     let base = bits.cells() + 1;
     if area.len() < base {

@@ -6,3 +6,4 @@ pub mod Protocols
 pub mod Routed
 pub mod Law
 pub mod Exact
+pub mod Turns

@@ -1,12 +1,14 @@
 // The routed kind as one of the table's kinds.
-ghost use Rattle.std.specs.Prelude.{◌≡◌, ◌-◌, ◌<◌, ◌≤◌, ◌↔◌, IsTrue, true, Ok, is_some};
-ghost use Rattle.routed.specs.Ranges.{SomePort};
-ghost use Rattle.routed.specs.Routed.{routed, rule_in};
+ghost use Rattle.std.specs.Prelude.{◌≡◌, ◌↔◌, IsTrue, IfSome, true, Ok, is_some};
+ghost use Rattle.kinds.specs.Meaning.{IsMatched};
+ghost use Rattle.kinds.specs.Values.{valued, cells_of};
+ghost use Rattle.routed.specs.Routed.{routed, rule_in, IsHeader};
 ghost use Rattle.routed.specs.Law.{routed_lawful};
 
 use super::packet::Header;
 use super::rule::{Row, Rule};
-use kinds::{Kind, digit};
+use bits::{Bits, Chosen};
+use kinds::{Cells, Kind, Masked, admits_each, digit, make_masked};
 
 pub struct Routed;
 
@@ -46,19 +48,45 @@ impl Kind for Routed {
             && rule.takes_ports(header.ports)
     }
 
-    fn admits(rule: &Rule, b: usize, value: bool) -> bool
-        ensures answer { result ≡ routed.admits rule.now b value }
-        ensures source_exact { 64 ≤ b → b < 80 → IsTrue result ↔ SomePort rule.now.source_ports (b - 64) value }
-        ensures destination_exact { 80 ≤ b → b < 96 → IsTrue result ↔ SomePort rule.now.destination_ports (b - 80) value }
+    // At each bit alone, and at those of a range together.
+    fn admits(rule: &Rule, bits: &Bits, cell: usize) -> bool
+        ensures answer { result ≡ routed.admits rule.now (valued bits.now cell) }
+        ensures exact { IsTrue result ↔ IsMatched routed IsHeader rule.now (valued bits.now cell) }
     {
-        match b {
-            0..=31 => rule.source.admits(b, value),
-            32..=63 => rule.destination.admits(b - 32, value),
-            64..=79 => rule.source_ports.admits(b - 64, value),
-            80..=95 => rule.destination_ports.admits(b - 80, value),
-            96..=103 => rule.protocol.admits(b - 96, value),
-            _ => !value,
+        // Read, so that it is known that they have their bits.
+        let _source = rule.source.address;
+        let _destination = rule.destination.address;
+        let _source_high = rule.source_ports.high;
+        let _destination_high = rule.destination_ports.high;
+        let _protocol = rule.protocol.value;
+        let chosen = Chosen::new(bits);
+        let source = rule.source_ports.span(4, &chosen);
+        let destination = rule.destination_ports.span(5, &chosen);
+        admits_each(rule, bits, cell) & source.has(cell) & destination.has(cell)
+    }
+
+    #[inline(always)]
+    fn masked(rule: &Rule, chosen: &Chosen) -> Option<Masked> {
+        // First, since it is mostly wanted, and the rule is then still in registers.
+        let masked = make_masked(rule, chosen);
+        if rule.source_ports.is_even(chosen.sixteen(4))
+            && rule.destination_ports.is_even(chosen.sixteen(5))
+        {
+            Some(masked)
+        } else {
+            None
         }
+    }
+
+    #[inline(always)]
+    fn cells(rule: &Rule, chosen: &Chosen) -> Option<Cells>
+        ensures cells { IfSome result (λ cells. cells ≡ cells_of (routed.admits rule.now) chosen.now) }
+        ensures told { is_some result ≡ true }
+    {
+        let masked = make_masked(rule, chosen);
+        let source = rule.source_ports.span(4, chosen);
+        let destination = rule.destination_ports.span(5, chosen);
+        Some(Cells::new(masked, source, destination))
     }
 
     // The same line in each kind and no body in the trait: no plainer, since the trait would need a bound for this alone.

@@ -1,6 +1,7 @@
 // The routed kind: IPv4 packets by addresses, ports and protocol.
 #![tactic(auto)]
 
+mod alone;
 mod fault;
 mod kind;
 mod packet;

@@ -1,16 +1,18 @@
 -- Worked cases: what the definitions give for the seven lines.
---     Case    a sort of case, with its numbers
---     Holds   what a case says: that the definitions give these numbers
---     cases   the cases
---     Cases   they all hold
+--     Case       a sort of case, with its numbers
+--     to_ports   the numbers of a rule of all packets to some ports
+--     Holds      what a case says: that the definitions give these numbers
+--     cases      the cases
+--     Cases      they all hold
 -- Assumes nothing.
-use Rattle.std.specs.Prelude.{◌≡◌, ℕ, Bool, true, false, List, [], ◌∷◌, Some, None, Ok, Option}
+use Rattle.std.specs.Prelude.{◌≡◌, ℕ, List, [], ◌∷◌, Some, None, Ok, Option}
 use Rattle.std.specs.List.{AllByRecursion}
 use Rattle.kinds.specs.Checks.{◌and_then◌}
 use Rattle.bridge.specs.Bridge.{bridge}
-use Rattle.routed.specs.Ranges.{range_of, range_admits}
+use Rattle.routed.specs.Routed.{routed, rule_in}
+use Rattle.routed.specs.declared.rule.Row.{Row}
 use Rattle.judges.specs.Costs.{largest, capped_squares}
-use Rattle.blocks.specs.Blocks.{block, sizes, table_size}
+use Rattle.blocks.specs.Blocks.{block, cells_naming, sizes, table_size}
 use Rattle.layout.specs.Layout.{starts, laid}
 use Rattle.layout.specs.LookUp.{looked_up}
 use Rattle.seven_lines.specs.Beginnings.{header_beginning}
@@ -27,8 +29,22 @@ pub data Case : Type 0 where
   squares_of : (bits : List ℕ) (cost : ℕ) → Case
   -- with some lines struck: the line that the table for the bits 1 and 2 answers a header that begins with a byte, and the entries tried
   answer_to : (struck : List ℕ) (byte : ℕ) (line : Option ℕ) (tried : ℕ) → Case
-  -- a port range admits a value at a bit
-  admits_at : (low high b : ℕ) (value : Bool) → Case
+  -- for some chosen bits: the cells whose blocks name a line of all packets to the ports from one to another
+  cells_of_ports : (low high : ℕ) (bits : List ℕ) (cells : List ℕ) → Case
+
+abbrev pub to_ports : (low high : ℕ) → Row
+to_ports low high = record {
+  source = 0;
+  source_length = 0;
+  destination = 0;
+  destination_length = 0;
+  source_low = 0;
+  source_high = 65535;
+  destination_low = low;
+  destination_high = high;
+  protocol = 0;
+  mask = 0;
+}
 
 abbrev pub Holds : Case → Type 0
 Holds (block_of bits cell lines) = block bridge seven bits cell ≡ lines
@@ -39,7 +55,7 @@ Holds (largest_of bits cost) = largest (sizes bridge seven bits) ≡ cost
 Holds (squares_of bits cost) = capped_squares (sizes bridge seven bits) ≡ cost
 Holds (answer_to struck byte line tried) =
     looked_up bridge (without struck) (1 ∷ 2 ∷ []) (header_beginning byte) (laid bridge (without struck) (1 ∷ 2 ∷ []) 17) ≡ Ok (line, tried)
-Holds (admits_at low high b value) = (range_of low high and_then λ range. Ok (range_admits range b value)) ≡ Ok true
+Holds (cells_of_ports low high bits cells) = (rule_in (to_ports low high) and_then λ rule. Ok (cells_naming routed (Some rule ∷ []) bits 0)) ≡ Ok cells
 
 abbrev pub cases : List Case
 cases =
@@ -59,10 +75,7 @@ cases =
     ∷ answer_to [] 0xA0 (Some 2) 2
     ∷ answer_to (4 ∷ []) 0xE0 (Some 6) 2
     ∷ answer_to (4 ∷ 6 ∷ []) 0xE0 None 1
-    ∷ admits_at 1 2 14 false
-    ∷ admits_at 1 2 14 true
-    ∷ admits_at 1 2 15 false
-    ∷ admits_at 1 2 15 true
+    ∷ cells_of_ports 1 2 (94 ∷ 95 ∷ []) (1 ∷ 2 ∷ [])
     ∷ []
 
 abbrev pub Cases : Type 0

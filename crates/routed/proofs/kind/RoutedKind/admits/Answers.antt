@@ -1,16 +1,23 @@
-use Rattle.std.proofs.Common.{◌-◌, rules}
-use Rattle.std.proofs.lemmas.Bool.Decides.{Decides-at}
-use Rattle.routed.specs.Exact.{ends_range, ends_exact}
+use Rattle.std.proofs.Common.{arith}
+use Rattle.std.proofs.lemmas.Bool.Decides.{nat_tests}
+use Rattle.kinds.specs.Values.{valued}
+use Rattle.kinds.specs.Spans.{in_span}
+use Rattle.routed.proofs.Told.{told}
+use Rattle.routed.proofs.Matched.{exact}
 use Rattle.routed.proofs.kind.RoutedKind.admits.Goals as goal
 
-pub returns-in-64-to-79-clause-answer : goal.returns-in-64-to-79-clause-answer
-returns-in-64-to-79-clause-answer c = let same = ends_range c.args.rule.now.source_ports (c.args.b - 64) c.args.value in search rules
+same : goal.returns-clause-answer
+same c =
+    let rule = c.args.rule.now in
+    let cell = c.args.cell in
+    let source = c.span-source.result in
+    let destination = c.span-destination.result in
+    let first = rw c.new-chosen.ensures at (c.span-source.ensures cell) in
+    let second = rw c.new-chosen.ensures at (c.span-destination.ensures cell) in
+    grind (arith, nat_tests, told rule (valued c.args.bits.now cell) (in_span source cell) (in_span destination cell) first second)
 
-pub returns-in-64-to-79-clause-source_exact : goal.returns-in-64-to-79-clause-source_exact
-returns-in-64-to-79-clause-source_exact c from to = Decides-at _ _ c.admits-in-64-to-79.ensures (ends_exact c.args.rule.now.source_ports (c.args.b - 64) c.args.value)
+pub returns-clause-answer : goal.returns-clause-answer
+returns-clause-answer c = same c
 
-pub returns-in-80-to-95-clause-answer : goal.returns-in-80-to-95-clause-answer
-returns-in-80-to-95-clause-answer c = let same = ends_range c.args.rule.now.destination_ports (c.args.b - 80) c.args.value in search rules
-
-pub returns-in-80-to-95-clause-destination_exact : goal.returns-in-80-to-95-clause-destination_exact
-returns-in-80-to-95-clause-destination_exact c from to = Decides-at _ _ c.admits-in-80-to-95.ensures (ends_exact c.args.rule.now.destination_ports (c.args.b - 80) c.args.value)
+pub returns-clause-exact : goal.returns-clause-exact
+returns-clause-exact c = exact c.args.rule.now (omega arith, omega arith, omega arith, omega arith, omega arith) c.args.bits.now c.admits_each.ensures.bits c.args.cell _ (same c)

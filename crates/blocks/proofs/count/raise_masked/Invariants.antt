@@ -1,0 +1,10 @@
+use Rattle.std.proofs.Common.{◌≡◌, ◌+◌, length}
+use Rattle.blocks.specs.Raising.{raised, MayRaise}
+use Rattle.blocks.proofs.count.raise_masked.Given as goal
+
+abbrev pub invariant-loop-cell : goal.invariant-loop-cell
+invariant-loop-cell l = record {
+  may : MayRaise l.cell-iterator l.numbers;
+  left : l.left + length l.fn.cells ≡ l.room + length l.cell-iterator;
+  raised : raised l.cell-iterator l.numbers ≡ raised l.fn.cells l.initial.numbers;
+}
