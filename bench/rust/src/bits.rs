@@ -1,6 +1,7 @@
 //! Sets of bits.
 
 use crate::kind::Kind;
+use std::rc::Rc;
 
 /// The most bits of a set.
 pub const MOST_BITS: usize = 12;
@@ -9,7 +10,7 @@ pub const MOST_BITS: usize = 12;
 const WIDEST: u16 = 1024;
 
 /// Rising numbers of bits, at most twelve.
-#[derive(Clone, Copy, Debug)]
+#[derive(Clone, Copy, Debug, Default)]
 pub struct Bits {
     bits: [u16; MOST_BITS],
     len: usize,
@@ -18,10 +19,7 @@ pub struct Bits {
 impl Bits {
     /// The set of no bit.
     pub fn none() -> Self {
-        Bits {
-            bits: [0; MOST_BITS],
-            len: 0,
-        }
+        Bits::default()
     }
 
     /// The bits one by one, rising.
@@ -74,45 +72,89 @@ impl Bits {
             .iter()
             .fold(0, |cell, &bit| cell << 1 | usize::from(K::bit(header, bit)))
     }
-
-    /// The cells whose value a rule admits at each bit; none where it admits neither value at one.
-    /// The bits of the answer are worked out without a case for each, as no case is likelier.
-    pub fn cells_of<K: Kind>(&self, rule: &K::Rule) -> Option<Cells> {
-        let mut cells = Cells { ones: 0, free: 0 };
-        for &bit in self.as_slice() {
-            let zero = K::admits(rule, bit, false);
-            let one = K::admits(rule, bit, true);
-            if !(zero | one) {
-                return None;
-            }
-            cells.ones = cells.ones << 1 | usize::from(!zero);
-            cells.free = cells.free << 1 | usize::from(zero & one);
-        }
-        Some(cells)
-    }
 }
 
-/// Cells that a rule admits: their numbers have ones at `ones`, and both values at `free`.
-#[derive(Clone, Copy)]
+/// The values that a run of bits has, told together and rising. `place` has ones where these bits
+/// stand in a cell's number, side by side.
+#[derive(Clone, Debug)]
+pub struct Together {
+    pub values: Rc<[u16]>,
+    pub place: usize,
+}
+
+/// The cells that a rule admits: their numbers have ones at `ones`, both values at `free`, and one of
+/// the values of each run of bits whose values are told together. Of two runs the first stands right
+/// before the second.
+#[derive(Clone, Debug)]
 pub struct Cells {
     ones: usize,
     free: usize,
+    runs: [Option<Together>; 2],
 }
 
 impl Cells {
-    /// How many cells these are.
-    pub fn count(self) -> usize {
-        1 << self.free.count_ones()
+    /// The cells with ones at `ones` and both values at `free`.
+    pub fn free(ones: usize, free: usize) -> Self {
+        let runs = [None, None];
+        Cells { ones, free, runs }
     }
 
-    /// The cells one by one, falling: all parts of the free bits, from all of them to none.
-    pub fn each(self) -> impl Iterator<Item = usize> {
-        let Cells { ones, free } = self;
-        let parts = std::iter::successors(Some(free), move |&part: &usize| {
-            part.checked_sub(1).map(|below| below & free)
-        });
-        parts.map(move |part| ones | part)
+    /// These cells, but with the values told at the bits of the runs.
+    pub fn with(self, runs: [Option<Together>; 2]) -> Self {
+        let places = runs.iter().flatten().map(|run| run.place);
+        let others = places.fold(usize::MAX, |others, place| others & !place);
+        let (ones, free) = (self.ones & others, self.free & others);
+        Cells { ones, free, runs }
     }
+
+    /// How many cells these are.
+    pub fn count(&self) -> usize {
+        let values = |run: &Together| run.values.len();
+        let together: usize = self.runs.iter().flatten().map(values).product();
+        together << self.free.count_ones()
+    }
+
+    /// Visits the cells one by one, rising.
+    #[inline]
+    pub fn each(&self, mut visit: impl FnMut(usize)) {
+        let [first, second] = &self.runs;
+        match second.as_ref().or(first.as_ref()) {
+            None => parts(self.free).for_each(|part| visit(self.ones | part)),
+            Some(last) => self.each_told(last, visit),
+        }
+    }
+
+    /// Visits the cells one by one, rising, where there are runs and this is the last.
+    fn each_told(&self, last: &Together, mut visit: impl FnMut(usize)) {
+        let [first, second] = &self.runs;
+        let behind = self.free & ((1 << last.place.trailing_zeros()) - 1);
+        for before in parts(self.free & !behind) {
+            for first in told(first) {
+                for second in told(second) {
+                    let cell = self.ones | before | first | second;
+                    parts(behind).for_each(|part| visit(cell | part));
+                }
+            }
+        }
+    }
+}
+
+/// The numbers that have ones at no other bits than these, rising: from none of them to all.
+pub fn parts(of: usize) -> impl Iterator<Item = usize> {
+    std::iter::successors(Some(0), move |&part: &usize| {
+        (part != of).then_some(part.wrapping_sub(of) & of)
+    })
+}
+
+/// The values of a run of bits at their place in a cell's number; 0 alone where there is no run.
+fn told(run: &Option<Together>) -> impl Iterator<Item = usize> {
+    let (values, behind) = match run {
+        Some(run) => (&*run.values, run.place.trailing_zeros()),
+        None => (&[0][..], 0),
+    };
+    values
+        .iter()
+        .map(move |&value| usize::from(value) << behind)
 }
 
 #[cfg(test)]
@@ -146,13 +188,40 @@ mod tests {
         assert!(twelve.exchange(3, 1024).is_none());
     }
 
+    fn one_by_one(cells: &Cells) -> Vec<usize> {
+        let mut numbers = Vec::new();
+        cells.each(|cell| numbers.push(cell));
+        assert_eq!(cells.count(), numbers.len());
+        numbers
+    }
+
+    fn together(values: &[u16], place: usize) -> Option<Together> {
+        let values = values.into();
+        Some(Together { values, place })
+    }
+
     #[test]
     fn cells_one_by_one() {
-        let cells = Cells {
-            ones: 0b0100,
-            free: 0b1010,
-        };
-        assert_eq!(cells.count(), 4);
-        assert!(cells.each().eq([0b1110, 0b1100, 0b0110, 0b0100]));
+        let cells = Cells::free(0b0100, 0b1010);
+        assert_eq!(one_by_one(&cells), [0b0100, 0b0110, 0b1100, 0b1110]);
+        assert_eq!(one_by_one(&Cells::free(0, 0)), [0]);
+        let all = Cells::free(0, 4_095);
+        assert!(one_by_one(&all).into_iter().eq(0..4_096));
+    }
+
+    #[test]
+    fn cells_with_values_told_together() {
+        let cells = Cells::free(0b01100, 0b10011);
+        let run = together(&[0b01, 0b10], 0b110);
+        let want = [
+            0b01010, 0b01011, 0b01100, 0b01101, 0b11010, 0b11011, 0b11100, 0b11101,
+        ];
+        assert_eq!(one_by_one(&cells.clone().with([None, run.clone()])), want);
+        assert_eq!(one_by_one(&cells.clone().with([run, None])), want);
+        let cells = Cells::free(0, 0b111111);
+        let first = together(&[0b00, 0b11], 0b011000);
+        let second = together(&[0b001, 0b010, 0b111], 0b000111);
+        let want = [1, 2, 7, 25, 26, 31, 33, 34, 39, 57, 58, 63];
+        assert_eq!(one_by_one(&cells.with([first, second])), want);
     }
 }

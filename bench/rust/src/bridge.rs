@@ -1,5 +1,6 @@
 //! The bridge kind: the first 14 bytes of a frame.
 
+use crate::bits::{Bits, Cells};
 use crate::fault::Fault;
 use crate::fields::{Admitted, Fields};
 use crate::kind::Kind;
@@ -46,6 +47,7 @@ impl Kind for Bridge {
     type Header = Fields;
     type Row = Row;
     type Rule = Admitted;
+    type Asked = Bits;
 
     const WIDTH: u16 = 112;
 
@@ -57,12 +59,12 @@ impl Kind for Bridge {
         rule.admits_all(header)
     }
 
-    fn admits(rule: &Admitted, bit: u16, value: bool) -> bool {
-        if bit < Self::WIDTH {
-            rule.admits(bit, value)
-        } else {
-            !value
-        }
+    fn ask(asked: &mut Bits, bits: &Bits) {
+        *asked = *bits;
+    }
+
+    fn cells(rule: &Admitted, asked: &mut Bits) -> Cells {
+        rule.cells(asked, Self::WIDTH)
     }
 
     fn rule(row: &Row) -> Result<Admitted, Fault> {

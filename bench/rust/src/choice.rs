@@ -44,7 +44,7 @@ pub fn choose<K: Kind>(
     judge: Judge,
     most_bits: usize,
     most_tries: u32,
-    tally: &mut Tally,
+    tally: &mut Tally<K>,
 ) -> Result<Choice, Fault> {
     if most_bits > MOST_BITS || most_bits > usize::from(K::WIDTH) || most_tries > MOST_TRIES {
         return Err(Fault::table(12, 0));

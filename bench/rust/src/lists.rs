@@ -26,6 +26,9 @@ pub enum Mix {
     Open,
     /// Prefixes of 8 to 32 bits on both sides; any, ranges of and single ports.
     Mixed,
+    /// As mixed, but of a hundred lines 60 have an uneven range of destination ports, and 25 one of
+    /// source ports; their other ports are single or any.
+    Uneven,
 }
 
 impl Mix {
@@ -34,6 +37,7 @@ impl Mix {
             "full" => Some(Mix::Full),
             "open" => Some(Mix::Open),
             "mixed" => Some(Mix::Mixed),
+            "uneven" => Some(Mix::Uneven),
             _ => None,
         }
     }
@@ -138,6 +142,56 @@ struct Places {
     /// Networks of 24 bits elsewhere.
     outside: Vec<u32>,
     services: Vec<u16>,
+    /// Long uneven ranges of ports.
+    long_ranges: Vec<Ports>,
+}
+
+/// How many long uneven ranges a list speaks of.
+const LONG_RANGES: usize = 8;
+
+/// Uneven ranges of ports that many lists speak of.
+const KNOWN_RANGES: [Ports; 8] = [
+    Ports { low: 1, high: 2 },
+    Ports {
+        low: 137,
+        high: 139,
+    },
+    Ports {
+        low: 1,
+        high: 1_023,
+    },
+    Ports {
+        low: 1_023,
+        high: 1_024,
+    },
+    Ports {
+        low: 6_000,
+        high: 6_100,
+    },
+    Ports {
+        low: 32_767,
+        high: 32_768,
+    },
+    Ports {
+        low: 32_768,
+        high: 60_999,
+    },
+    Ports {
+        low: 0,
+        high: 65_534,
+    },
+];
+
+/// Ports from 1,024 on.
+const HIGH_PORTS: Ports = Ports {
+    low: 1_024,
+    high: 65_535,
+};
+
+/// Whether a range of ports is no aligned block. Single and all ports are aligned blocks.
+fn is_uneven(ports: Ports) -> bool {
+    let many = u32::from(ports.high - ports.low) + 1;
+    !many.is_power_of_two() || !u32::from(ports.low).is_multiple_of(many)
 }
 
 impl Places {
@@ -158,11 +212,23 @@ impl Places {
         ];
         let more = (0..24).map(|_| random.between(1_024, 20_000) as u16);
         let services = known.into_iter().chain(more).collect();
+        // These are made from other numbers, so that lists without them do not hang on them.
+        let mut other = Random::new(!seed);
+        let long_ranges = std::iter::repeat_with(|| {
+            let low = other.between(0, 50_000);
+            let high = other.between(low + 1_000, 65_535);
+            Ports {
+                low: low as u16,
+                high: high as u16,
+            }
+        });
+        let long_ranges = long_ranges.filter(|&ports| is_uneven(ports));
         Places {
             random,
             inside,
             outside,
             services,
+            long_ranges: long_ranges.take(LONG_RANGES).collect(),
         }
     }
 
@@ -194,15 +260,40 @@ impl Places {
             }
         } else if case < single + range {
             if self.random.chance(30) {
-                Ports {
-                    low: 1_024,
-                    high: 65_535,
-                }
+                HIGH_PORTS
             } else {
                 self.small_range()
             }
         } else {
             Ports::EVERY
+        }
+    }
+
+    /// Ports that are an uneven range, single or any, in so many of a hundred cases.
+    fn uneven_or_other_ports(&mut self, uneven: usize, single: usize) -> Ports {
+        if self.random.chance(uneven) {
+            self.uneven_range()
+        } else {
+            self.ports(single, 0)
+        }
+    }
+
+    fn uneven_range(&mut self) -> Ports {
+        loop {
+            let ports = match self.random.below(100) {
+                0..25 => HIGH_PORTS,
+                25..50 => self.small_range(),
+                50..65 => self.random.pick(&KNOWN_RANGES),
+                65..80 => self.random.pick(&self.long_ranges),
+                _ => {
+                    let low = self.random.between(0, 65_000) as u16;
+                    let high = low + self.random.between(1, 500) as u16;
+                    Ports { low, high }
+                }
+            };
+            if is_uneven(ports) {
+                return ports;
+            }
         }
     }
 
@@ -215,6 +306,17 @@ impl Places {
             25..47 => 24,
             47..65 => self.random.between(25, 31) as u8,
             _ => 32,
+        }
+    }
+
+    /// The ports of a line for TCP or UDP. Of a hundred lines 80 are.
+    fn both_ports(&mut self, mix: Mix) -> (Ports, Ports) {
+        if let Mix::Uneven = mix {
+            let source = self.uneven_or_other_ports(31, 30);
+            (source, self.uneven_or_other_ports(75, 70))
+        } else {
+            let source = self.ports(20, 15);
+            (source, self.ports(50, 30))
         }
     }
 
@@ -260,16 +362,13 @@ impl Places {
                     row.protocol = ICMP;
                 }
             }
-            Mix::Mixed => {
+            Mix::Mixed | Mix::Uneven => {
                 row.source_length = self.length();
                 row.destination_length = self.length();
                 match self.random.below(100) {
                     0..8 => row.protocol = ICMP,
                     8..20 => (row.protocol, row.mask) = (0, 0),
-                    _ => {
-                        row.source_ports = self.ports(20, 15);
-                        row.destination_ports = self.ports(50, 30);
-                    }
+                    _ => (row.source_ports, row.destination_ports) = self.both_ports(mix),
                 }
             }
         }
@@ -337,8 +436,43 @@ mod tests {
     use crate::routed::Routed;
 
     #[test]
+    fn uneven_ranges_are_no_aligned_blocks() {
+        let ports = |(low, high)| Ports { low, high };
+        let even = [
+            (5, 5),
+            (0, 65_535),
+            (0, 1),
+            (0, 1_023),
+            (6_016, 6_079),
+            (49_152, 65_535),
+        ];
+        let uneven = [
+            (1, 2),
+            (0, 2),
+            (1_024, 65_535),
+            (6_032, 6_095),
+            (0, 65_534),
+            (1, 65_535),
+        ];
+        assert!(!even.map(ports).into_iter().any(is_uneven));
+        assert!(uneven.map(ports).into_iter().all(is_uneven));
+        assert!(KNOWN_RANGES.into_iter().all(is_uneven));
+    }
+
+    #[test]
+    fn many_ranges_of_an_uneven_list_are_uneven() {
+        let list = List::random(10_000, Mix::Uneven, 8_192, 7, 0);
+        let many = |ports: fn(&Row) -> Ports| {
+            let uneven = list.rows.iter().filter(|row| is_uneven(ports(row)));
+            uneven.count()
+        };
+        assert!((5_800..6_200).contains(&many(|row| row.destination_ports)));
+        assert!((2_300..2_700).contains(&many(|row| row.source_ports)));
+    }
+
+    #[test]
     fn every_row_holds_a_rule_that_some_packet_matches() {
-        for mix in [Mix::Full, Mix::Open, Mix::Mixed] {
+        for mix in [Mix::Full, Mix::Open, Mix::Mixed, Mix::Uneven] {
             let list = List::random(500, mix, 8_192, 7, PACKETS);
             let mut places = Places::new(8);
             for row in &list.rows {

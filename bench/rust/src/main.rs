@@ -22,7 +22,7 @@ use std::process::ExitCode;
 use std::time::Duration;
 
 const USAGE: &str = "usage:
-  plain_table lists LINES full|open|mixed AREA SEED [PACKETS] > FILE
+  plain_table lists LINES full|open|mixed|uneven AREA SEED [PACKETS] > FILE
                                                              writes a rule list and packets, 4,096 if not told
   plain_table bench < FILE                                   measures them
   plain_table answer < JOB                                   carries out a job

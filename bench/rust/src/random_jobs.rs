@@ -11,6 +11,22 @@ const USUAL_BYTES: usize = 60_000;
 /// How many bits the rules of one job differ in, where they are to differ in few.
 const HOT_BITS: usize = 12;
 
+/// Port ranges that are no aligned blocks. Many begin or end where several bits change at once.
+const UNEVEN_RANGES: [(u16, u16); 12] = [
+    (1, 2),
+    (1, 1_023),
+    (3, 12),
+    (767, 1_280),
+    (1_023, 1_024),
+    (1_024, 65_535),
+    (6_000, 6_100),
+    (32_767, 32_768),
+    (16_383, 49_152),
+    (0, 65_534),
+    (1, 65_534),
+    (1, 65_535),
+];
+
 /// The job of a seed.
 pub fn random_job(seed: u64) -> Vec<u8> {
     let mut writer = Writer::new(Random::new(seed));
@@ -32,6 +48,8 @@ pub fn random_job(seed: u64) -> Vec<u8> {
             writer.ordinary();
             writer.fill_up();
         }
+        32..47 => writer.port_ranges(),
+        47..56 => writer.port_room(),
         _ => writer.ordinary(),
     }
     writer.job
@@ -266,6 +284,70 @@ impl Writer {
         }
     }
 
+    /// Choices of few bits for rules that differ in their port ranges more than elsewhere, so that bits
+    /// of ports are chosen.
+    fn port_ranges(&mut self) {
+        self.sort = Sort::Routed;
+        self.lines = self.random.between(3, 120);
+        self.damage = self.random.pick(&[0, 0, 0, 3]);
+        self.ports_at_borders();
+        self.alike_ports();
+        let single = self.random.pick(&[20, 50, 80]);
+        self.opening();
+        for line in 0..self.lines {
+            if self.random.chance(single) {
+                let [source, destination] = [0; 2].map(|_| self.single_port());
+                self.put_for_ports(line, source, destination);
+            } else {
+                self.put_ranges(line);
+            }
+        }
+        for _ in 0..self.random.between(1, 4) {
+            let judge = self.random.below(2) as u8;
+            let most_bits = self.random.pick(&[1, 2, 3, 3, 4, 4, 5, 6, 8, 12]);
+            let most_tries = self.random.pick(&[0, 50, 300, 1_500]);
+            self.lay_by(judge, most_bits, most_tries);
+            self.change_ranges(30);
+        }
+    }
+
+    /// A table whose area is filled up, or nearly, with rules of long and short port ranges, after
+    /// many bits of ports were chosen.
+    fn port_room(&mut self) {
+        self.sort = Sort::Routed;
+        self.lines = self.random.between(60, 600);
+        self.damage = self.random.pick(&[0, 0, 0, 3]);
+        self.ports_at_borders();
+        self.opening();
+        let single = self.random.between(12, 60);
+        for line in 0..single {
+            let [source, destination] = [0; 2].map(|_| {
+                let port = self.random.number() as u16;
+                Ports {
+                    low: port,
+                    high: port,
+                }
+            });
+            self.put_for_ports(line, source, destination);
+        }
+        let most_bits = self.random.between(7, 12) as u8;
+        let most_tries = self.random.pick(&[0, 20, 100]);
+        self.lay_by(1, most_bits, most_tries);
+        for _ in 0..self.random.between(1, 3) {
+            for line in 0..self.random.between(4, 120) {
+                self.put_ranges((single + line) % self.lines);
+            }
+            self.change_ranges(40);
+        }
+        if self.random.chance(60) {
+            let judge = self.random.below(2) as u8;
+            let most_bits = self.random.pick(&[2, 4, 12]);
+            let most_tries = self.random.pick(&[0, 100]);
+            self.lay_by(judge, most_bits, most_tries);
+            self.change_ranges(20);
+        }
+    }
+
     /// Bytes of any value, or small ones.
     fn any_bytes(&mut self) {
         let small = self.random.chance(70);
@@ -474,6 +556,60 @@ impl Writer {
         }
     }
 
+    /// Puts a rule with ranges of all sorts.
+    fn put_ranges(&mut self, line: usize) {
+        let source = if self.random.chance(40) {
+            Ports::EVERY
+        } else {
+            self.any_range()
+        };
+        let destination = self.any_range();
+        self.put_for_ports(line, source, destination);
+    }
+
+    /// Puts a rule for these ports, or for them the other way round, and mostly for all addresses and
+    /// protocols.
+    fn put_for_ports(&mut self, line: usize, source: Ports, destination: Ports) {
+        let (source_ports, destination_ports) = if self.random.chance(20) {
+            (destination, source)
+        } else {
+            (source, destination)
+        };
+        let mut row = routed::Row {
+            source: 0,
+            destination: 0,
+            source_length: 0,
+            destination_length: 0,
+            source_ports,
+            destination_ports,
+            protocol: 0,
+            mask: 0,
+        };
+        if self.random.chance(30) {
+            (row.protocol, row.mask) = (self.random.pick(&[6, 17]), 255);
+        }
+        if self.random.chance(10) {
+            row.destination_length = self.random.pick(&self.lengths);
+            row.destination =
+                self.random.pick(&self.addresses) & prefix_mask(row.destination_length);
+        }
+        self.put_routed(line, row);
+    }
+
+    /// Look-ups, and some puts of rules with ranges and some strikes among them.
+    fn change_ranges(&mut self, most: usize) {
+        for _ in 0..self.random.between(most / 3, most) {
+            match self.random.below(10) {
+                0..2 => {
+                    let line = self.random.below(self.lines);
+                    self.put_ranges(line);
+                }
+                2 => self.strike(),
+                _ => self.look_up(),
+            }
+        }
+    }
+
     fn put_routed(&mut self, line: usize, mut row: routed::Row) {
         self.puts += 1;
         self.routed_rows.push(row);
@@ -560,20 +696,73 @@ impl Writer {
     /// Every port, nearly every port, a single one or a range.
     fn any_ports(&mut self) -> Ports {
         let (low, high) = match self.random.below(20) {
-            0..8 => (0, 65_535),
-            8 => (0, 65_534),
-            9 => (1, 65_535),
-            10 => (0, 0),
-            11..15 => {
-                let port = self.random.pick(&self.ports);
-                (port, port)
-            }
-            _ => {
-                let [one, other] = [0, 1].map(|_| self.random.pick(&self.ports));
-                (one.min(other), one.max(other))
-            }
+            0..7 => (0, 65_535),
+            7 => (0, 65_534),
+            8 => (1, 65_535),
+            9 => (0, 0),
+            10..13 => return self.single_port(),
+            _ => return self.any_range(),
         };
         Ports { low, high }
+    }
+
+    fn single_port(&mut self) -> Ports {
+        let port = self.random.pick(&self.ports);
+        Ports {
+            low: port,
+            high: port,
+        }
+    }
+
+    /// A range of any sort: known, short or long, of ports from the pool or any; seldom a single port,
+    /// an aligned block or every port.
+    fn any_range(&mut self) -> Ports {
+        let (one, other) = match self.random.below(20) {
+            0..6 => self.random.pick(&UNEVEN_RANGES),
+            6..9 => {
+                let low = self.random.pick(&self.ports);
+                (low, low.saturating_add(self.random.between(1, 70) as u16))
+            }
+            9..16 => (self.random.pick(&self.ports), self.random.pick(&self.ports)),
+            16..18 => (self.random.number() as u16, self.random.number() as u16),
+            18 => {
+                let behind = self.random.below(17) as u32;
+                let low = u16::MAX.checked_shl(behind).unwrap_or(0) & self.random.number() as u16;
+                (low, low | !u16::MAX.checked_shl(behind).unwrap_or(0))
+            }
+            _ => (0, 65_535),
+        };
+        Ports {
+            low: one.min(other),
+            high: one.max(other),
+        }
+    }
+
+    /// Makes a pool of ports alone that are alike but for a few bits side by side, mostly: so these
+    /// bits tell rules for them apart.
+    fn alike_ports(&mut self) {
+        if self.random.chance(30) {
+            return;
+        }
+        let many = self.random.between(2, 5);
+        let behind = self.random.between(0, 16 - many);
+        let alike = self.random.number() as u16;
+        let differing = u16::MAX >> (16 - many) << behind;
+        let most = self.random.pick(&[4, 12, 30]);
+        self.ports = (0..most)
+            .map(|_| alike ^ self.random.number() as u16 & differing)
+            .collect();
+        if self.random.chance(50) {
+            self.ports_at_borders();
+        }
+    }
+
+    /// Takes the ends of the uneven ranges and their neighbours into the pool.
+    fn ports_at_borders(&mut self) {
+        for (low, high) in UNEVEN_RANGES {
+            self.ports
+                .extend([low.saturating_sub(1), low, high, high.saturating_add(1)]);
+        }
     }
 
     /// A rule of its own, or a rule of the job with other ports.

@@ -1,12 +1,27 @@
 //! The routed kind: IPv4 packets by addresses, ports and protocol.
 
+use crate::bits::{Bits, Cells, Together, parts};
 use crate::fault::Fault;
 use crate::fields::{Admitted, Fields};
 use crate::kind::Kind;
+use std::collections::HashMap;
+use std::mem;
+use std::rc::Rc;
 
 /// The routed kind. Its fields and their bits are: source address 0-31, destination address 32-63,
 /// source port 64-79, destination port 80-95, protocol 96-103.
 pub struct Routed;
+
+/// The first bit of each port field.
+const SOURCE_PORT: u16 = 64;
+const DESTINATION_PORT: u16 = 80;
+
+/// How many bits a port has, and how many ports there are.
+const PORT_BITS: u16 = 16;
+const PORTS: usize = 1 << PORT_BITS;
+
+/// The most significant bit of a port.
+const FIRST_OF_PORT: u16 = 1 << (PORT_BITS - 1);
 
 /// The bits of the fragment offset in bytes 6 and 7 of a packet. Before them stand three flags.
 const FRAGMENT_OFFSET: u16 = 0x1fff;
@@ -44,7 +59,7 @@ pub struct Row {
 }
 
 /// The low and the high end of a port range, both included.
-#[derive(Clone, Copy, Debug, PartialEq, Eq)]
+#[derive(Clone, Copy, Debug, PartialEq, Eq, Hash)]
 pub struct Ports {
     pub low: u16,
     pub high: u16,
@@ -52,7 +67,9 @@ pub struct Ports {
 
 /// A rule matches in the addresses and the protocol where it admits all bits of the header. In the
 /// ports that is not enough: they have to be in the ranges, and of a portless header both ranges
-/// have to be every port.
+/// have to be every port. What is admitted at a port's bits is told by value and mask where the range
+/// is a single port or every port. Else the ports are tried; value and mask tell there what all of
+/// them begin with, and are for matching alone.
 #[derive(Clone, Copy, Debug)]
 pub struct Rule {
     admitted: Admitted,
@@ -86,13 +103,106 @@ impl Ports {
         self.low <= port && port <= self.high
     }
 
-    /// A one at each bit where a port range admits one value alone. It admits v at a bit exactly
-    /// when some port in it has v there. The first bits, in which both ends agree, are the same in
-    /// every port. From the first bit in which they do not, both values are there: the range has a
-    /// port with 0 at that bit and ones behind it, and the next one, with 1 there and zeros behind.
+    fn is_single(&self) -> bool {
+        self.low == self.high
+    }
+
+    /// Ones at the first bits, in which both ends agree: these are the same in every port. Of a single
+    /// port that is all bits, and of every port none.
     fn mask(&self) -> u16 {
         let agreeing = (self.low ^ self.high).leading_zeros();
         !u16::MAX.checked_shr(agreeing).unwrap_or(0)
+    }
+
+    /// The values that the chosen bits have together in some port of the range, rising. They are
+    /// found by trying the ports: of one after the other the chosen bits are picked out and marked,
+    /// until the ports end or all that can be picked is marked. What stands behind the last chosen
+    /// bit is struck off first, and of ports that differ there alone one is tried.
+    ///
+    /// What is picked has zeros at all other bits; its value is its place among all that can be
+    /// picked. No mark is set before and after.
+    fn values(&self, chosen: u16, marks: &mut [bool; PORTS]) -> Rc<[u16]> {
+        let behind = chosen.trailing_zeros();
+        let chosen = chosen >> behind;
+        let mut unmarked = 1 << chosen.count_ones();
+        for port in self.low >> behind..=self.high >> behind {
+            let mark = &mut marks[usize::from(port & chosen)];
+            if !mem::replace(mark, true) {
+                unmarked -= 1;
+                if unmarked == 0 {
+                    break;
+                }
+            }
+        }
+        let each = parts(chosen.into()).zip(0..);
+        let marked = each.filter(|&(part, _)| mem::take(&mut marks[part]));
+        marked.map(|(_, value)| value).collect()
+    }
+}
+
+/// The chosen bits of one port field, and the values that ranges have there, as far as these were
+/// found.
+#[derive(Default)]
+struct AskedPorts {
+    /// Ones at these bits of a port.
+    chosen: u16,
+    /// Ones at these bits of a cell's number.
+    place: usize,
+    values: HashMap<Ports, Rc<[u16]>>,
+}
+
+impl AskedPorts {
+    /// Makes the bits of a set ready that lie in the field from this bit on. Where they are as
+    /// before, what was found is kept.
+    fn ask(&mut self, bits: &Bits, first: u16) {
+        let before = self.chosen;
+        (self.chosen, self.place) = (0, 0);
+        for (bit, behind) in bits.as_slice().iter().zip((0..bits.len()).rev()) {
+            if (first..first + PORT_BITS).contains(bit) {
+                self.chosen |= FIRST_OF_PORT >> (bit - first);
+                self.place |= 1 << behind;
+            }
+        }
+        if self.chosen != before {
+            self.values.clear();
+        }
+    }
+
+    /// Whether the ports of a range have to be tried: where a bit is chosen, and the range is neither
+    /// a single port nor every port.
+    fn tries(&self, ports: &Ports) -> bool {
+        self.chosen != 0 && !ports.is_single() && *ports != Ports::EVERY
+    }
+
+    /// What a range admits, where its ports have to be tried.
+    fn told(&mut self, ports: Ports, marks: &mut [bool; PORTS]) -> Option<Together> {
+        self.tries(&ports).then(|| {
+            let values = self.values.entry(ports);
+            let values = values.or_insert_with(|| ports.values(self.chosen, marks));
+            Together {
+                values: values.clone(),
+                place: self.place,
+            }
+        })
+    }
+}
+
+/// A set of bits, with the parts of it that lie in port fields.
+pub struct Asked {
+    bits: Bits,
+    source_ports: AskedPorts,
+    destination_ports: AskedPorts,
+    marks: Box<[bool; PORTS]>,
+}
+
+impl Default for Asked {
+    fn default() -> Self {
+        Asked {
+            bits: Bits::none(),
+            source_ports: AskedPorts::default(),
+            destination_ports: AskedPorts::default(),
+            marks: Box::new([false; PORTS]),
+        }
     }
 }
 
@@ -191,6 +301,7 @@ impl Kind for Routed {
     type Header = Header;
     type Row = Row;
     type Rule = Rule;
+    type Asked = Asked;
 
     const WIDTH: u16 = 104;
 
@@ -206,11 +317,30 @@ impl Kind for Routed {
             && (!header.portless || rule.is_for_every_port())
     }
 
-    fn admits(rule: &Rule, bit: u16, value: bool) -> bool {
-        if bit < Self::WIDTH {
-            rule.admitted.admits(bit, value)
+    fn ask(asked: &mut Asked, bits: &Bits) {
+        asked.bits = *bits;
+        asked.source_ports.ask(bits, SOURCE_PORT);
+        asked.destination_ports.ask(bits, DESTINATION_PORT);
+    }
+
+    #[inline]
+    fn cells(rule: &Rule, asked: &mut Asked) -> Cells {
+        let cells = rule.admitted.cells(&asked.bits, Self::WIDTH);
+        let Asked {
+            source_ports,
+            destination_ports,
+            marks,
+            ..
+        } = asked;
+        if source_ports.tries(&rule.source_ports)
+            || destination_ports.tries(&rule.destination_ports)
+        {
+            cells.with([
+                source_ports.told(rule.source_ports, marks),
+                destination_ports.told(rule.destination_ports, marks),
+            ])
         } else {
-            !value
+            cells
         }
     }
 
@@ -296,26 +426,187 @@ mod tests {
         mask: 0,
     };
 
-    /// What a range admits, bit by bit, against all its ports.
+    fn set(bits: impl IntoIterator<Item = u16>) -> Bits {
+        bits.into_iter().fold(Bits::none(), |set, bit| {
+            set.with(bit).expect("one bit more")
+        })
+    }
+
+    fn ports(low: u16, high: u16) -> Ports {
+        Ports { low, high }
+    }
+
+    fn to_ports(low: u16, high: u16) -> Row {
+        Row {
+            destination_ports: ports(low, high),
+            ..ANY
+        }
+    }
+
+    /// The cells of a row's rule, after others were asked for. They have to rise.
+    fn cells_after(asked: &mut Asked, row: &Row, bits: &Bits) -> Vec<usize> {
+        let rule = Routed::rule(row).expect("a rule");
+        Routed::ask(asked, bits);
+        let told = Routed::cells(&rule, asked);
+        let mut cells = Vec::new();
+        told.each(|cell| cells.push(cell));
+        assert_eq!(told.count(), cells.len(), "{row:?}, {bits:?}");
+        assert!(cells.is_sorted_by(|a, b| a < b), "{row:?}, {bits:?}");
+        cells
+    }
+
+    fn cells(row: &Row, bits: &Bits) -> Vec<usize> {
+        cells_after(&mut Asked::default(), row, bits)
+    }
+
+    /// The cells of all headers that the rule of a row for every protocol matches whose addresses
+    /// are 0.
+    fn cells_of_headers(row: &Row, bits: &Bits) -> Vec<usize> {
+        let rule = Routed::rule(row).expect("a rule");
+        let mut marked = vec![false; bits.cells()];
+        for source_port in row.source_ports.low..=row.source_ports.high {
+            for destination_port in row.destination_ports.low..=row.destination_ports.high {
+                let packet = Packet {
+                    source: 0,
+                    destination: 0,
+                    source_port,
+                    destination_port,
+                    protocol: 0,
+                };
+                let header = packet.header();
+                assert!(Routed::matches(&rule, &header));
+                marked[bits.cell_of::<Routed>(&header)] = true;
+            }
+        }
+        let all = marked.iter().enumerate();
+        all.filter_map(|(cell, marked)| marked.then_some(cell))
+            .collect()
+    }
+
+    /// Sets of bits of a port field: its bits by their places.
+    const PLACES: [&[u16]; 9] = [
+        &[15],
+        &[14, 15],
+        &[0, 15],
+        &[0, 1, 2],
+        &[0, 1, 2, 3, 4, 5],
+        &[3, 7, 8, 12],
+        &[10, 11, 12, 13, 14, 15],
+        &[1, 3, 5, 7, 9, 11, 13, 15],
+        &[0, 1, 2, 3, 4, 5, 6, 7, 8, 13, 14, 15],
+    ];
+
     #[test]
-    fn a_range_admits_what_some_port_has() {
-        let ends = [
-            0, 1, 2, 3, 6, 7, 8, 12, 255, 256, 257, 767, 1_023, 1_024, 49_151, 65_534, 65_535,
-        ];
-        for low in ends {
-            for high in ends.into_iter().filter(|&high| low <= high) {
-                let rule = Routed::rule(&Row {
-                    destination_ports: Ports { low, high },
-                    ..ANY
-                });
-                let rule = rule.expect("a rule");
-                for place in 0..16 {
-                    for value in [false, true] {
-                        let has_it = |port: u16| (port >> (15 - place) & 1 == 1) == value;
-                        let some = (low..=high).any(has_it);
-                        let told = Routed::admits(&rule, 80 + place, value);
-                        assert_eq!(told, some, "{low} to {high}, bit {place}");
+    fn a_range_admits_the_values_that_some_port_has() {
+        assert_eq!(cells(&to_ports(1, 2), &set([94, 95])), [0b01, 0b10]);
+        assert_eq!(cells(&to_ports(1, 2), &set([95])), [0, 1]);
+        assert_eq!(cells(&to_ports(1, 2), &set([93])), [0]);
+        assert_eq!(
+            cells(&to_ports(32_767, 32_768), &set(80..=91)),
+            [0b0111_1111_1111, 0b1000_0000_0000]
+        );
+        let from_1024 = cells(&to_ports(1_024, 65_535), &set(80..=85));
+        assert!(from_1024.into_iter().eq(1..64));
+        assert!(
+            cells(&to_ports(0, 1_023), &set(80..=91))
+                .into_iter()
+                .eq(0..64)
+        );
+    }
+
+    #[test]
+    fn every_port_has_all_values_and_a_single_one_its_own() {
+        for places in PLACES {
+            let bits = set(places.iter().map(|place| 80 + place));
+            let every = cells(&ANY, &bits);
+            assert!(every.into_iter().eq(0..bits.cells()), "{bits:?}");
+            for port in [0, 1, 1_023, 1_024, 0x5a5a, 32_767, 32_768, 65_535] {
+                let row = to_ports(port, port);
+                assert_eq!(cells(&row, &bits), cells_of_headers(&row, &bits));
+                assert_eq!(cells(&row, &bits).len(), 1, "{port}, {bits:?}");
+            }
+        }
+    }
+
+    /// All ranges between multiples of a number, in either port field, against all their ports.
+    #[test]
+    fn ranges_admit_what_their_ports_have() {
+        let from_0 = |ports| Row {
+            source_ports: ports,
+            destination_ports: Ports { low: 0, high: 0 },
+            ..ANY
+        };
+        let to_0 = |ports| Row {
+            source_ports: Ports { low: 0, high: 0 },
+            destination_ports: ports,
+            ..ANY
+        };
+        let mut asked = Asked::default();
+        for (step, most) in [(1, 20), (4_096, 15), (5_041, 13)] {
+            for places in PLACES {
+                let from = set(places.iter().map(|place| 64 + place));
+                let to = set(places.iter().map(|place| 80 + place));
+                for low in 0..=most {
+                    for high in low..=most {
+                        let ports = ports(low * step, high * step);
+                        let want = cells_of_headers(&from_0(ports), &from);
+                        let told = cells_after(&mut asked, &from_0(ports), &from);
+                        assert_eq!(told, want, "{ports:?} of the source, {places:?}");
+                        let told = cells_after(&mut asked, &to_0(ports), &to);
+                        assert_eq!(told, want, "{ports:?} of the destination, {places:?}");
                     }
+                }
+            }
+        }
+    }
+
+    /// Both ranges at once, with free and fixed bits before, between and behind.
+    #[test]
+    fn both_ranges_admit_what_their_ports_have() {
+        let row = Row {
+            source_ports: ports(1, 2),
+            destination_ports: ports(1_023, 1_024),
+            ..ANY
+        };
+        let bits = set([78, 79, 84, 85, 86, 95]);
+        let told = cells(&row, &bits);
+        assert_eq!(told, [0b01_0011, 0b01_0100, 0b10_0011, 0b10_0100]);
+        assert_eq!(told, cells_of_headers(&row, &bits));
+
+        let narrow = Row {
+            source: 0x8000_0000,
+            source_length: 1,
+            protocol: 1,
+            mask: 255,
+            ..row
+        };
+        let told = cells(&narrow, &set([0, 63, 78, 79, 84, 85, 102, 103, 104]));
+        let mut want = Vec::new();
+        for addresses in [0b10, 0b11] {
+            for source in [0b01, 0b10] {
+                want.extend(
+                    [0b00, 0b01]
+                        .map(|destination| addresses << 7 | source << 5 | destination << 3 | 0b010),
+                );
+            }
+        }
+        assert_eq!(told, want);
+
+        let ends = [(1, 2), (0, 6), (3, 3), (5, 12), (32_760, 32_771)];
+        let mut asked = Asked::default();
+        for places in [&[13, 14, 15][..], &[0, 15], &[0, 1, 12, 13, 14]] {
+            let each = |first: u16| places.iter().map(move |place| first + place);
+            let bits = set([30].into_iter().chain(each(64)).chain(each(80)));
+            for source in ends.into_iter().chain([(0, 65_535)]) {
+                for destination in ends {
+                    let row = Row {
+                        source_length: 32,
+                        source_ports: ports(source.0, source.1),
+                        destination_ports: ports(destination.0, destination.1),
+                        ..ANY
+                    };
+                    let told = cells_after(&mut asked, &row, &bits);
+                    assert_eq!(told, cells_of_headers(&row, &bits), "{row:?}, {bits:?}");
                 }
             }
         }
@@ -494,12 +785,12 @@ mod tests {
 
     #[test]
     fn past_the_width_a_rule_admits_0_alone() {
-        let rule = Routed::rule(&ANY).expect("a rule");
         for bit in 0..Routed::WIDTH {
-            assert!(Routed::admits(&rule, bit, false) && Routed::admits(&rule, bit, true));
+            assert_eq!(cells(&ANY, &set([bit])), [0, 1], "bit {bit}");
         }
         for bit in [104, 105, 127, 128, 1_023] {
-            assert!(Routed::admits(&rule, bit, false) && !Routed::admits(&rule, bit, true));
+            assert_eq!(cells(&ANY, &set([bit])), [0], "bit {bit}");
+            assert_eq!(cells(&to_ports(1, 2), &set([95, bit])), [0b00, 0b10]);
         }
     }
 }

@@ -13,8 +13,21 @@ pub const MOST_LINES: usize = 16_384;
 pub const TALLY: usize = 1 << MOST_BITS;
 
 /// Block sizes are counted into a tally. It is as long as twelve bits need, so it is never short
-/// (refusal 14); what it held before never matters.
-pub type Tally = [u32; TALLY];
+/// (refusal 14); what it held before never matters. Beside it stands the set of bits that rules are
+/// asked for.
+pub struct Tally<K: Kind> {
+    numbers: Box<[u32; TALLY]>,
+    asked: K::Asked,
+}
+
+impl<K: Kind> Tally<K> {
+    pub fn new() -> Self {
+        Tally {
+            numbers: Box::new([0; TALLY]),
+            asked: K::Asked::default(),
+        }
+    }
+}
 
 /// A line that is filled holds a rule; one that is empty holds none.
 pub type Line<K> = Option<<K as Kind>::Rule>;
@@ -49,22 +62,20 @@ pub fn count<'a, K: Kind>(
     lines: &[Line<K>],
     bits: &Bits,
     area: usize,
-    tally: &'a mut Tally,
+    tally: &'a mut Tally<K>,
 ) -> Result<&'a [u32], Fault> {
     if lines.len() > MOST_LINES {
         return Err(Fault::table(9, 0));
     }
     let no_room = Fault::table(13, 0);
-    let sizes = &mut tally[..bits.cells()];
+    let sizes = &mut tally.numbers[..bits.cells()];
     let mut room = area.checked_sub(bits.cells() + 1).ok_or(no_room)?;
     sizes.fill(0);
+    K::ask(&mut tally.asked, bits);
     for rule in lines.iter().flatten() {
-        if let Some(cells) = bits.cells_of::<K>(rule) {
-            room = room.checked_sub(cells.count()).ok_or(no_room)?;
-            for cell in cells.each() {
-                sizes[cell] += 1;
-            }
-        }
+        let cells = K::cells(rule, &mut tally.asked);
+        room = room.checked_sub(cells.count()).ok_or(no_room)?;
+        cells.each(|cell| sizes[cell] += 1);
     }
     Ok(sizes)
 }
@@ -75,7 +86,7 @@ pub fn lay<K: Kind>(
     lines: &[Line<K>],
     bits: &Bits,
     area: &mut [u32],
-    tally: &mut Tally,
+    tally: &mut Tally<K>,
 ) -> Result<(), Fault> {
     count::<K>(lines, bits, area.len(), tally)?;
     let (starts, entries) = area.split_at_mut(bits.cells() + 1);
@@ -85,21 +96,20 @@ pub fn lay<K: Kind>(
 
     // Each size gives way to its block's start, which then moves on behind each entry written.
     let mut end = 0;
-    for (start, cursor) in starts.iter_mut().zip(tally.iter_mut()) {
+    let cursors = &mut *tally.numbers;
+    for (start, cursor) in starts.iter_mut().zip(cursors.iter_mut()) {
         *start = end;
         end += mem::replace(cursor, end);
     }
     *last = end;
 
     for (number, line) in lines.iter().enumerate() {
-        if let Some(rule) = line
-            && let Some(cells) = bits.cells_of::<K>(rule)
-        {
-            for cell in cells.each() {
-                let cursor = &mut tally[cell];
+        if let Some(rule) = line {
+            K::cells(rule, &mut tally.asked).each(|cell| {
+                let cursor = &mut cursors[cell];
                 entries[*cursor as usize] = number as u32;
                 *cursor += 1;
-            }
+            });
         }
     }
     entries[end as usize..].fill(0);
@@ -112,7 +122,7 @@ pub fn lay<K: Kind>(
 pub struct Book<K: Kind> {
     lines: Vec<Line<K>>,
     area: Vec<u32>,
-    tally: Box<Tally>,
+    tally: Tally<K>,
     /// The chosen bits of a laid table; none while the book is open.
     bits: Option<Bits>,
 }
@@ -126,7 +136,7 @@ impl<K: Kind> Book<K> {
         Ok(Book {
             lines: vec![None; lines],
             area: vec![0; area],
-            tally: Box::new([0; TALLY]),
+            tally: Tally::new(),
             bits: None,
         })
     }
@@ -287,7 +297,8 @@ mod tests {
     }
 
     fn costs(book: &Book<Bridge>, bits: &Bits) -> (u64, u64) {
-        let mut tally = [7; TALLY];
+        let mut tally = Tally::new();
+        tally.numbers.fill(7);
         let sizes = count::<Bridge>(book.lines(), bits, 1000, &mut tally).expect("room");
         (Judge::Largest.cost(sizes), Judge::Squares.cost(sizes))
     }
