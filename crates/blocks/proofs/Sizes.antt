@@ -56,13 +56,13 @@ module _ {Header Rule Row : Type 0} (k : Meaning Header Rule Row) (rules : List 
   pub get_or-sizes : (c : ℕ) → c < 2 ^ length bits → get_or (sizes k rules bits) c 0 ≡ length (block k rules bits c)
   get_or-sizes c h = get_or-map length (blocks k rules bits) c [] 0 (omega (arith, length-blocks)) ∙ ap length (get_or-blocks c h)
 
-  size_few : (c : ℕ) → length (block k rules bits c) ≤ length rules
+  pub size_few : (c : ℕ) → length (block k rules bits c) ≤ length rules
   size_few c =
       let keeps = λ (line : ℕ). admits_line k (get_or rules line None) bits c in
       omega (arith, length-filter keeps (range_with_len 0 (length rules)), count_by-le-length keeps (range_with_len 0 (length rules)), length-range_with_len 0 (length rules))
 
   -- all entries together: at most every line in every cell
-  entries_few : sum (sizes k rules bits) ≤ 2 ^ length bits * length rules
+  pub entries_few : sum (sizes k rules bits) ≤ 2 ^ length bits * length rules
   entries_few =
       let ss = sizes k rules bits in
       let each = All-from_get_or (λ size. size ≤ length rules) ss 0 (λ c lt. omega (arith, get_or-sizes c (omega (arith, length-sizes)), size_few c)) in

@@ -18,6 +18,9 @@ module _ {Header Rule Row : Type 0} (k : Meaning Header Rule Row) (rules : List 
   pub start_next : (c : ℕ) → c < 2 ^ length bits → start (c + 1) ≡ start c + length (block k rules bits c)
   start_next c h = sum_by_more (λ x. x) (sizes k rules bits) c 0 (omega (arith, length-sizes k rules bits)) ∙ ap (λ n. start c + n) (get_or-sizes k rules bits c h)
 
+  pub start_within : (c : ℕ) → start c ≤ sum (sizes k rules bits)
+  start_within c = sum_by-take-le (λ x. x) (sizes k rules bits) c
+
   -- an area is as long as its table, and longer by the zeros behind it
   length_all : (len : ℕ) → length (laid k rules bits len) ≡ table_size k rules bits + (len - table_size k rules bits)
   length_all len =
@@ -61,4 +64,4 @@ module _ {Header Rule Row : Type 0} (k : Meaning Header Rule Row) (rules : List 
       ∙ get_or-blocks k rules bits c h
 
   pub laid_bounds : (len c : ℕ) → Fits k rules bits len → c < 2 ^ length bits → (start c ≤ start (c + 1)) × (2 ^ length bits + 1 + start (c + 1) ≤ len)
-  laid_bounds len c fits h = (omega (arith, start_next c h), omega (arith, sum_by-take-le (λ x. x) (sizes k rules bits) (c + 1)))
+  laid_bounds len c fits h = (omega (arith, start_next c h), omega (arith, start_within (c + 1)))
