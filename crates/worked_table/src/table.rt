@@ -1,11 +1,10 @@
 // The table of the seven lines for two bits of a header, and what it answers.
-ghost use Rattle.std.specs.Prelude.{◌≡◌, ◌<◌, [], ◌∷◌, None, Ok, IfOk, slice_set};
+ghost use Rattle.std.specs.Prelude.{◌≡◌, ◌<◌, [], ◌∷◌, None, Ok, slice_set};
 ghost use Rattle.kinds.specs.Lines.{rules_of};
 ghost use Rattle.bridge.specs.Frames.{header_of};
 ghost use Rattle.bridge.specs.Bridge.{bridge};
-ghost use Rattle.layout.specs.LookUp.{Found};
 ghost use Rattle.seven_lines.specs.Seven.{seven};
-ghost use Rattle.worked_table.specs.Lists.{AnswersFrom};
+ghost use Rattle.worked_table.specs.Lists.{AnswersFrom, AnswersAnew};
 
 use super::say;
 use bits::Bits;
@@ -63,9 +62,9 @@ impl<const N: usize> Book<N> {
         Ok(layout::look_up::<Bridge>(&self.lines, &self.bits, area, &header))
     }
 
-    // The lowest line for a header, or none, with the entries tried: from a table of the lines as they are now, laid for this answer.
+    // The lowest line for a header, or none, with the entries tried: from a table of the lines as they are now, laid for this answer; or the code of what laying refused.
     fn answer_anew(&self, header: &Header) -> Result<(Option<usize>, usize), FaultCode>
-        ensures { IfOk result (λ found. Found bridge (rules_of bridge self.now.lines) self.now.bits header.now found.0 found.1) }
+        ensures { AnswersAnew bridge self.now.lines self.now.bits 4 17 header.now result }
     {
         let mut area = [0u32; ROOM];
         let mut tally = [0u32; 4];
